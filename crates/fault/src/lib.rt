@@ -1,0 +1,3 @@
+// What the bridge refuses, and what a receive says of its learning.
+pub mod mark;
+pub mod refusal;

@@ -1,0 +1,5 @@
+pub mod Own
+pub mod Parsed
+pub mod Placed
+pub mod Back
+pub mod Room

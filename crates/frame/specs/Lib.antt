@@ -1,0 +1,4 @@
+pub mod Address
+pub mod Packed
+pub mod Reading
+pub mod Writing
