@@ -1,0 +1,4 @@
+pub mod Classes
+pub mod Answers
+pub mod Strict
+pub mod Turns
