@@ -1,0 +1,2 @@
+pub mod Remembered
+pub mod Right

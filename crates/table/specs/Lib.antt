@@ -1,0 +1,4 @@
+pub mod Entries
+pub mod Rising
+pub mod Calls
+pub mod Records
