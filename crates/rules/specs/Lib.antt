@@ -1,0 +1,9 @@
+pub mod Settings
+pub mod State
+pub mod Ingress
+pub mod Relay
+pub mod Egress
+pub mod Calls
+pub mod Runs
+pub mod Laws
+pub mod Setup
