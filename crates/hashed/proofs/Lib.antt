@@ -1,0 +1,4 @@
+pub mod Held
+pub mod Row
+pub mod Clear
+pub mod Cut

@@ -1,0 +1,3 @@
+pub mod Probing
+pub mod Measured
+pub mod Swept

@@ -1,0 +1,4 @@
+pub mod Hash
+pub mod Probe
+pub mod Measure
+pub mod Sweep
