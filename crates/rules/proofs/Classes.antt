@@ -21,21 +21,26 @@ at-most k [] i h = omega arith
 at-most k (c ∷ cs) zero h = omega (arith, leb-true c k (and-parts _ _ h .0))
 at-most k (c ∷ cs) (suc i) h = omega (arith, at-most (suc k) cs i (and-parts _ _ h .1))
 
-allClimb : List (List ℕ) → Bool
-allClimb [] = true
-allClimb (row ∷ rows) = climbs 0 row && allClimb rows
+-- a test of each row of a table, and so of the row at any place
+unfoldable pub allRows : (List ℕ → Bool) → List (List ℕ) → Bool
+allRows test [] = true
+allRows test (row ∷ rows) = test row && allRows test rows
 
-row-climbs : (rows : List (List ℕ)) (i : ℕ) → allClimb rows ≡ true → climbs 0 (getD rows i []) ≡ true
-unfolding allClimb climbs
-row-climbs [] i h = refl
-row-climbs (row ∷ rows) zero h = and-parts _ _ h .0
-row-climbs (row ∷ rows) (suc i) h = row-climbs rows i (and-parts _ _ h .1)
+pub row-at : (test : List ℕ → Bool) (rows : List (List ℕ)) (i : ℕ) → test [] ≡ true → allRows test rows ≡ true → test (getD rows i []) ≡ true
+unfolding allRows
+row-at test [] i e h = e
+row-at test (row ∷ rows) zero e h = and-parts _ _ h .0
+row-at test (row ∷ rows) (suc i) e h = row-at test rows i e (and-parts _ _ h .1)
 
-table-climbs : allClimb classTable ≡ true
-unfolding allClimb climbs
+table-climbs : allRows (climbs 0) classTable ≡ true
+unfolding allRows climbs
 table-climbs = refl
+
+none-climbs : climbs 0 [] ≡ true
+unfolding climbs
+none-climbs = refl
 
 pub class-below : Class-below
 unfolding classOf
 class-below classes priority some =
-    omega (arith, at-most 0 (getD classTable priority []) (classes - 1) (row-climbs classTable priority table-climbs))
+    omega (arith, at-most 0 (getD classTable priority []) (classes - 1) (row-at (climbs 0) classTable priority none-climbs table-climbs))

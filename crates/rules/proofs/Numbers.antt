@@ -10,6 +10,7 @@ use lib.ListN.{getD, length}
 use Rattle.std.proofs.shelf.Tests.{and-parts, false≢true, ltb-true}
 use Rattle.std.proofs.shelf.Ways.{tells}
 use Rattle.rules.specs.Egress.{classOf, classTable}
+use Rattle.rules.proofs.Classes.{allRows, row-at}
 use Rattle.rules.specs.State.{Queued, eight, sixteen, standingIn}
 
 pub eqb-flip : (a b : ℕ) → eqb a b ≡ eqb b a
@@ -54,23 +55,17 @@ small-at [] i s = omega arith
 small-at (c ∷ cs) zero s = ltb-true c 8 (and-parts _ _ s .0)
 small-at (c ∷ cs) (suc i) s = small-at cs i (and-parts _ _ s .1)
 
-rowsSmall : List (List ℕ) → Bool
-rowsSmall [] = true
-rowsSmall (row ∷ rows) = allSmall row && rowsSmall rows
-
-row-small : (rows : List (List ℕ)) (i : ℕ) → rowsSmall rows ≡ true → allSmall (getD rows i []) ≡ true
-unfolding rowsSmall allSmall
-row-small [] i s = refl
-row-small (row ∷ rows) zero s = and-parts _ _ s .0
-row-small (row ∷ rows) (suc i) s = row-small rows i (and-parts _ _ s .1)
-
-table-small : rowsSmall classTable ≡ true
-unfolding rowsSmall allSmall
+table-small : allRows allSmall classTable ≡ true
+unfolding allRows allSmall
 table-small = refl
+
+none-small : allSmall [] ≡ true
+unfolding allSmall
+none-small = refl
 
 pub class-small : (classes priority : ℕ) → classOf classes priority < 8
 unfolding classOf
-class-small classes priority = small-at (getD classTable priority []) (classes - 1) (row-small classTable priority table-small)
+class-small classes priority = small-at (getD classTable priority []) (classes - 1) (row-at allSmall classTable priority none-small table-small)
 
 -- how often a class is among some classes
 abbrev times : ℕ → List ℕ → ℕ

@@ -44,6 +44,20 @@ justMade ports classes depth share =
       statics = [];
     }
 
+-- the settings with the parts that calls may change
+abbrev pub setTo : Settings → ℕ → List PortSettings → List Vlan → List StaticEntry → Settings
+setTo σ ageing port vlans statics =
+    record {
+      ports = σ .ports;
+      classes = σ .classes;
+      depth = σ .depth;
+      share = σ .share;
+      ageing = ageing;
+      port = port;
+      vlans = vlans;
+      statics = statics;
+    }
+
 -- a port's settings
 abbrev pub portAsked : Bool → Settings → ℕ → PortSettings → Option Refusal
 portAsked started σ p port =
@@ -52,17 +66,7 @@ portAsked started σ p port =
     (ask (between 1 4094 (port .pvid)) VidOutOfRange (ask (leb (port .priority) 7) PriorityOutOfRange None)))
 
 abbrev pub withPort : Settings → ℕ → PortSettings → Settings
-withPort σ p port =
-    record {
-      ports = σ .ports;
-      classes = σ .classes;
-      depth = σ .depth;
-      share = σ .share;
-      ageing = σ .ageing;
-      port = set (σ .port) p port;
-      vlans = σ .vlans;
-      statics = σ .statics;
-    }
+withPort σ p port = setTo σ (σ .ageing) (set (σ .port) p port) (σ .vlans) (σ .statics)
 
 -- whether every port of one set is below a number, or in another set
 abbrev pub allBelow : PortSet → ℕ → List ℕ → Bool
@@ -92,17 +96,7 @@ vlanAsked started σ v =
     (ask (noVlan (vlanOf (σ .vlans) (v .vid))) AlreadyThere (ask (ltb (length (σ .vlans)) 64) TooMany None))))))
 
 abbrev pub withVlan : Settings → Vlan → Settings
-withVlan σ v =
-    record {
-      ports = σ .ports;
-      classes = σ .classes;
-      depth = σ .depth;
-      share = σ .share;
-      ageing = σ .ageing;
-      port = σ .port;
-      vlans = σ .vlans ++ (v ∷ []);
-      statics = σ .statics;
-    }
+withVlan σ v = setTo σ (σ .ageing) (σ .port) (σ .vlans ++ (v ∷ [])) (σ .statics)
 
 -- a static entry
 abbrev pub staticAsked : Bool → Settings → StaticEntry → Option Refusal
@@ -112,34 +106,14 @@ staticAsked started σ e =
     (ask (noStatic (staticOf (σ .statics) (e .vid) (e .address))) AlreadyThere (ask (ltb (length (σ .statics)) 64) TooMany None)))
 
 abbrev pub withStatic : Settings → StaticEntry → Settings
-withStatic σ e =
-    record {
-      ports = σ .ports;
-      classes = σ .classes;
-      depth = σ .depth;
-      share = σ .share;
-      ageing = σ .ageing;
-      port = σ .port;
-      vlans = σ .vlans;
-      statics = σ .statics ++ (e ∷ []);
-    }
+withStatic σ e = setTo σ (σ .ageing) (σ .port) (σ .vlans) (σ .statics ++ (e ∷ []))
 
 -- the ageing time in seconds
 abbrev pub ageingAsked : Bool → ℕ → Option Refusal
 ageingAsked started seconds = ask (not started) AlreadyStarted (ask (between 10 1000000 seconds) AgeingOutOfRange None)
 
 abbrev pub withAgeing : Settings → ℕ → Settings
-withAgeing σ seconds =
-    record {
-      ports = σ .ports;
-      classes = σ .classes;
-      depth = σ .depth;
-      share = σ .share;
-      ageing = seconds;
-      port = σ .port;
-      vlans = σ .vlans;
-      statics = σ .statics;
-    }
+withAgeing σ seconds = setTo σ seconds (σ .port) (σ .vlans) (σ .statics)
 
 -- start asks nothing else; it leaves the bridge at `atStart`
 abbrev pub startAsked : Bool → Option Refusal
