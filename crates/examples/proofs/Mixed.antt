@@ -1,10 +1,9 @@
 -- Calls without a send make a run, whatever they answer.
-use mathlib.Core.Path.{_≡_, refl}
+use mathlib.Core.Path.{refl}
 use mathlib.Core.List.{List, [], _∷_}
-use Prim.Native.Nat.{ℕ}
 use Rattle.std.specs.declared.option.Option.the-variants.{None}
 use Rattle.table.specs.Rising.{order}
-use Rattle.rules.specs.Calls.{Call, advance, event, find, flush, perform, receive, send, standing}
+use Rattle.rules.specs.Calls.{Call, perform}
 use Rattle.rules.specs.Egress.{classOf}
 use Rattle.rules.specs.Runs.{ChoosesAt, Path′, go, stay}
 use Rattle.rules.specs.Settings.{Settings}

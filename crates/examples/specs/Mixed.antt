@@ -1,13 +1,12 @@
 -- That isolation speaks of something: a run in which two databases' calls alternate, and a run with the calls
 -- of one of them alone, meet its premise. The same station is heard in both databases, at different ports.
 use mathlib.Core.Path.{_≡_}
-use mathlib.Core.Bool.{Bool, true, false, _&&_}
 use mathlib.Core.List.{List, [], _∷_, _++_, map}
-use Prim.Native.Nat.{ℕ, _+_}
+use Prim.Native.Nat.{_+_}
 use lib.ListN.{length}
 use Rattle.std.specs.declared.option.Option.the-variants.{None}
-use Rattle.rules.specs.Calls.{Answer, Call, advance, event, find, flush, perform, receive, send, standing}
-use Rattle.rules.specs.Laws.{Alike, concerning, plain}
+use Rattle.rules.specs.Calls.{Call, find, flush, perform, receive}
+use Rattle.rules.specs.Laws.{Alike, concerning}
 use Rattle.rules.specs.Runs.{Run, Step}
 use Rattle.rules.specs.Settings.{Settings}
 use Rattle.rules.specs.State.{State, atStart}

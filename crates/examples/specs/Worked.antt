@@ -31,8 +31,6 @@ use Rattle.rules.specs.Setup.{ageingAsked, makeAsked, portAsked, startAsked, st
 use Rattle.rules.specs.State.{State, atStart, sixteen}
 use Rattle.rules.specs.declared.ports.PortSet.{PortSet}
 use Rattle.rules.specs.declared.ports.PortSettings.{PortSettings}
-use Rattle.rules.specs.declared.vlans.StaticEntry.{StaticEntry}
-use Rattle.rules.specs.declared.vlans.Verdict.{Verdict}
 use Rattle.rules.specs.declared.vlans.Verdict.the-variants.{Forward}
 use Rattle.rules.specs.declared.vlans.Vlan.{Vlan}
 

@@ -1,7 +1,7 @@
 -- A frame that is read has its own bytes again when its parts are written.
 use mathlib.Core.Path.{_≡_, refl, ap, sym, _∙_}
 use mathlib.Core.Bool.{Bool, true, false}
-use mathlib.Core.List.{List, [], _∷_, _++_}
+use mathlib.Core.List.{List, _∷_, _++_}
 use Prim.Native.Nat.{ℕ, _+_, _*_, _/_, _%_, _≤_, _<_}
 use lib.ListN.{length, getD, take, drop, length-drop}
 use lib.Seq.{drop-cons}
@@ -9,12 +9,10 @@ use native.Mathlib.Omega.{arith}
 use Rattle.std.proofs.shelf.Lists.{drop-drop, take-append-drop}
 use Rattle.std.proofs.shelf.Tests.{le-leb}
 use Rattle.std.proofs.shelf.Ways.{tells}
-use Rattle.std.specs.declared.option.Option.{Option}
-use Rattle.std.specs.declared.option.Option.the-variants.{Some, None}
+use Rattle.std.specs.declared.option.Option.the-variants.{None}
 use Rattle.std.specs.declared.result.Result.the-variants.{Ok}
 use Rattle.frame.specs.Reading.{Picture, asked, cfiIn, partsOf, placesOf, priorityIn, tagIn, tagWord, tagged, vidIn}
 use Rattle.frame.specs.Writing.{OwnBytes, frameOf, longest, shapeAsked, sizeOf, tagBytes, tagFits}
-use Rattle.frame.specs.declared.parts.Tag.{Tag}
 
 -- the four bytes of a tag, and what follows
 four : (f : List ℕ) → 16 ≤ length f → drop 12 f ≡ getD f 12 0 ∷ getD f 13 0 ∷ getD f 14 0 ∷ getD f 15 0 ∷ drop 16 f

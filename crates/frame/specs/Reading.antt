@@ -1,7 +1,7 @@
 -- What a frame is, as a list of bytes: destination, source, a tag if there is one, and the body.
 -- `parse` gives these parts, or the first question that the frame fails. Nothing else in the
 -- repository says how a frame is read.
-use mathlib.Core.Bool.{Bool, true, false, cond, _&&_}
+use mathlib.Core.Bool.{Bool, cond, _&&_}
 use mathlib.Core.List.{List}
 use Prim.Native.Nat.{ℕ, _+_, _*_, _/_, _%_}
 use lib.Dec.{ltb, eqb}

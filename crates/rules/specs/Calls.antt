@@ -1,10 +1,9 @@
 -- What each call of a bridge answers and leaves, refusals included. A call's questions are asked in
 -- order, and the first no is the answer; a refused call leaves the state as it was, except that what
 -- a receive has learned by then stays learned.
-use mathlib.Core.Path.{_≡_}
 use mathlib.Core.Bool.{Bool, true, false, cond, not, _&&_}
 use mathlib.Core.List.{List, [], _∷_, map}
-use Prim.Native.Nat.{ℕ, _+_, _-_, _*_}
+use Prim.Native.Nat.{ℕ, _-_, _*_}
 use lib.Dec.{eqb, leb, ltb}
 use lib.ListN.{length, set}
 use Rattle.std.specs.declared.option.Option.{Option}

@@ -2,7 +2,7 @@
 -- and of nothing inside it. Each is stated for every run, whatever table the bridge has and whatever
 -- its selector chooses.
 use mathlib.Core.Path.{_≡_}
-use mathlib.Core.Bool.{Bool, true, false, cond, not, _&&_}
+use mathlib.Core.Bool.{Bool, true, false, cond, _&&_}
 use mathlib.Core.List.{List, [], _∷_, _++_, map}
 use Prim.Native.Nat.{ℕ, zero, suc, _+_, _-_, _≤_, _<_}
 use lib.Dec.{eqb, leb, ltb}
@@ -23,7 +23,6 @@ use Rattle.rules.specs.Runs.{Run, Step}
 use Rattle.rules.specs.Settings.{Settings, has, isOf, portOf, staticOf, vlanOf}
 use Rattle.rules.specs.declared.answers.Received.{Received}
 use Rattle.rules.specs.declared.answers.Sent.{Sent}
-use Rattle.rules.specs.declared.ports.PortSet.{PortSet}
 use Rattle.rules.specs.declared.vlans.Vlan.{Vlan}
 
 -- ISOLATION: what one database's calls answer does not depend on the others' calls.

@@ -2,13 +2,12 @@
 -- calls are in it. Which class a send takes is the selector's choice: any class that holds a frame,
 -- and none exactly when none does.
 use mathlib.Core.Path.{_≡_}
-use mathlib.Core.Bool.{Bool, true, false}
+use mathlib.Core.Bool.{Bool, true}
 use mathlib.Core.List.{List, [], _∷_}
-use Prim.Native.Nat.{ℕ, _<_}
-use lib.ListN.{getD}
+use Prim.Native.Nat.{ℕ}
 use Rattle.std.specs.declared.option.Option.{Option}
 use Rattle.std.specs.declared.option.Option.the-variants.{Some, None}
-use Rattle.rules.specs.Calls.{Answer, Call, Outcome, advance, event, find, flush, perform, receive, send, standing, standingClasses}
+use Rattle.rules.specs.Calls.{Answer, Call, advance, event, find, flush, perform, receive, send, standing, standingClasses}
 use Rattle.rules.specs.Settings.{Settings}
 use Rattle.rules.specs.State.{State, atStart}
 use Rattle.selector.specs.Classes.{NoneHeld, holds}

@@ -1,9 +1,8 @@
 -- What changes while a bridge runs: the clock, the ports' states, the set of learned entries, and for
 -- each port and traffic class the frames that stand, oldest first, and where the next will lie.
-use mathlib.Core.Bool.{Bool, true, cond, _&&_, not}
+use mathlib.Core.Bool.{Bool, true}
 use mathlib.Core.List.{List, [], _∷_}
 use Prim.Native.Nat.{ℕ, _+_}
-use lib.Dec.{eqb}
 use lib.ListN.{getD, length, replicate}
 use Rattle.rules.specs.declared.ports.PortState.{PortState}
 use Rattle.rules.specs.declared.ports.PortState.the-variants.{Disabled}

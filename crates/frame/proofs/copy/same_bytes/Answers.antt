@@ -1,4 +1,3 @@
-use borrow.Author.Needs.{needs}
 use Rattle.std.proofs.shelf.Equals.{matches-decides}
 use Rattle.frame.proofs.copy.same_bytes.Needs as need
 
