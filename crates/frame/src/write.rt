@@ -1,9 +1,10 @@
 // Writing a frame from its parts into memory that the caller lends.
 ghost use mathlib.Core.Path.{_≡_};
 ghost use mathlib.Core.Bool.{true};
-ghost use Prim.Native.Nat.{_+_, _≤_};
+ghost use Prim.Native.Nat.{_+_, _<_, _≤_};
 ghost use lib.ListN.{length};
 ghost use Rattle.std.specs.declared.option.Option.the-variants.{Some};
+ghost use Rattle.std.specs.declared.result.Result.the-variants.{Ok};
 ghost use Rattle.frame.specs.Reading.{picture};
 ghost use Rattle.frame.specs.Writing.{ReadsBack, cellAfter, cellAnswer, frameOf, putAt, sizeOf, tagBytes, tagFits, writeAfter, writeAnswer};
 use crate::parts::Parts;
@@ -74,6 +75,15 @@ fn fill(frame: &mut [u8], parts: &Parts<'_>)
     }
 }
 
+// Lays a frame that was measured for this place, where it reads back exactly if it is readable.
+fn lay(memory: &mut [u8], at: usize, size: usize, parts: &Parts<'_>)
+    requires { ⌜ Ok size ≡ writeAnswer (length (now memory)) at (picture (now parts)) ⌝ }
+    ensures after { λ _. ⌜ now (memory .exit) ≡ putAt (now (memory .entry)) at (frameOf (picture (now (parts .entry)))) ⌝ }
+    ensures reads_back { λ _. ⌜ ReadsBack (picture (now (parts .entry))) at (now (memory .exit)) (Ok size) ⌝ }
+{
+    fill(&mut memory[at..at + size], parts);
+}
+
 // Writes a frame from position `at` on, and answers its length.
 pub fn write(memory: &mut [u8], at: usize, parts: &Parts<'_>) -> Result<usize, Refusal>
     ensures answer { λ r. ⌜ r ≡ writeAnswer (length (now (memory .entry))) at (picture (now (parts .entry))) ⌝ }
@@ -81,8 +91,27 @@ pub fn write(memory: &mut [u8], at: usize, parts: &Parts<'_>) -> Result<usize, R
     ensures reads_back { λ r. ⌜ ReadsBack (picture (now (parts .entry))) at (now (memory .exit)) r ⌝ }
 {
     let length = measure(memory.len(), at, parts)?;
-    fill(&mut memory[at..at + length], parts);
+    lay(memory, at, length, parts);
     Ok(length)
+}
+
+// A cell that does not lie in the memory has no room for a frame: only which question refuses it is open.
+fn refuse_cell(memory: &[u8], place: usize, parts: &Parts<'_>) -> Result<usize, Refusal>
+    requires { ⌜ length (now memory) < place + 1518 ⌝ }
+    ensures answer { λ r. ⌜ r ≡ cellAnswer (length (now (memory .entry))) place (picture (now (parts .entry))) ⌝ }
+    ensures after { λ _. ⌜ now (memory .entry) ≡ cellAfter (now (memory .entry)) place (picture (now (parts .entry))) ⌝ }
+{
+    measure(0, 0, parts)
+}
+
+// The cell is lent to the writer.
+fn lend_cell(memory: &mut [u8], place: usize, parts: &Parts<'_>) -> Result<usize, Refusal>
+    requires { ⌜ place + 1518 ≤ length (now memory) ⌝ }
+    ensures answer { λ r. ⌜ r ≡ cellAnswer (length (now (memory .entry))) place (picture (now (parts .entry))) ⌝ }
+    ensures after { λ _. ⌜ now (memory .exit) ≡ cellAfter (now (memory .entry)) place (picture (now (parts .entry))) ⌝ }
+{
+    let cell = &mut memory[place..place + CELL];
+    write(cell, 0, parts)
 }
 
 // Writes a frame into the cell that begins at `place`, and touches nothing outside it.
@@ -91,8 +120,7 @@ pub fn write_cell(memory: &mut [u8], place: usize, parts: &Parts<'_>) -> Result<
     ensures after { λ _. ⌜ now (memory .exit) ≡ cellAfter (now (memory .entry)) place (picture (now (parts .entry))) ⌝ }
 {
     if memory.len() < CELL || memory.len() - CELL < place {
-        return measure(0, 0, parts);
+        return refuse_cell(memory, place, parts);
     }
-    let cell = &mut memory[place..place + CELL];
-    write(cell, 0, parts)
+    lend_cell(memory, place, parts)
 }

@@ -10,15 +10,8 @@ use Rattle.fault.specs.Asked.{changed}
 use Rattle.frame.specs.Writing.{cellRoom, frameOf, putAt, writeAnswer}
 use Rattle.frame.proofs.Back.{size-of}
 use Rattle.frame.proofs.Placed.{cell as lend}
-use Rattle.frame.proofs.Room.{in-a-cell, length-is, no-room}
-use Rattle.frame.proofs.write.write_cell.Needs as need
-
-pub returns-then-memory-lt-CELL : need.returns-then-memory-lt-CELL
-returns-then-memory-lt-CELL c =
-    let m = c .args .memory .now in
-    let q = picture (c .args .parts .now) in
-    let r : cellRoom (length m) (c .args .place) ≡ 0 = grind (arith, tells) in
-    record { answer = rw r (c .measure .ensures); after = rw r (sym (no-room q m _)) }
+use Rattle.frame.proofs.Room.{in-a-cell, length-is}
+use Rattle.frame.proofs.write.lend_cell.Needs as need
 
 pub returns : need.returns
 returns c =
