@@ -1,4 +1,6 @@
 // The worked examples, proved of the definitions that the contracts cite.
+#![tactic(auto)]
+
 ghost use Rattle.std.specs.Prelude.{◌≡◌, true, length};
 ghost use Rattle.examples.specs.Mixed.{PremiseMet};
 ghost use Rattle.examples.specs.Worked.{ExamplesHold, table};

@@ -1,3 +1,5 @@
 // What the bridge refuses, and what a receive says of its learning.
+#![tactic(auto)]
+
 pub mod mark;
 pub mod refusal;

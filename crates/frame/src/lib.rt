@@ -1,4 +1,6 @@
 // Ethernet frames with and without a VLAN tag: addresses, reading, writing, and reading for C.
+#![tactic(auto)]
+
 pub mod address;
 pub mod c_api;
 pub mod copy;

@@ -1,4 +1,6 @@
 // A filtering table whose records are placed by a hash, in a stretch for each filtering database.
+#![tactic(auto)]
+
 pub mod check;
 pub mod checked;
 pub mod hashed;

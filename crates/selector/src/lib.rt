@@ -1,4 +1,6 @@
 // Which traffic class of a port sends next.
+#![tactic(auto)]
+
 pub mod classes;
 pub mod picking;
 pub mod selector;

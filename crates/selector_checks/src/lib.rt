@@ -1,4 +1,6 @@
 // Tests of the selectors, over every set of classes.
+#![tactic(auto)]
+
 #[cfg(test)]
 mod any;
 #[cfg(test)]

@@ -1,5 +1,7 @@
 // Records that are placed by a hash: the search for an entry or for a free record, going round from
 // an entry's home, and the loops over whole stretches of records.
+#![tactic(auto)]
+
 mod hash;
 pub mod measure;
 pub mod probe;

@@ -1,4 +1,6 @@
 // Tests of the filtering tables: what each call answers, tried at all of them alike.
+#![tactic(auto)]
+
 #[cfg(test)]
 mod after_learning;
 #[cfg(test)]
