@@ -5,5 +5,5 @@ use Rattle.frame.proofs.copy.write_and_confirm.Goals as goal
 
 pub stands-requires : goal.stands-requires
 stands-requires c =
-    let h = lies (length c.args.memory.now) c.args.at _ (picture c.args.parts.now) c.in-ok-length.ensures.answer in
+    let h = lies (length c.args.memory.now) c.args.at _ (picture c.args.parts.now) c.in_ok-length.ensures.answer in
     search rules

@@ -25,7 +25,7 @@ returns-in-Some c =
     let p = c.args.parts.now in
     let d = p.destination in
     let s = p.source in
-    let t = c.tag-bytes.result in
+    let t = c.tag_bytes.result in
     let b = p.body.now in
     let hd : length d ≡ 6 = search rules in
     let hs : length s ≡ 6 = search rules in
@@ -37,5 +37,5 @@ returns-in-Some c =
     let e4 : c.put-in-Some-2.new.memory ≡ put_at m 0 (((d ++ s) ++ t) ++ b) = next m ((d ++ s) ++ t) b _ _ 16 hdst e3 c.put-in-Some-2.ensures in
     let n : length m ≡ 16 + length b = rw c.in-Some.is at c.requires.0 in
     let w = whole m (((d ++ s) ++ t) ++ b) (simp length-append (omega arith)) in
-    let q : t ≡ tag_bytes p.tag = c.tag-bytes.ensures ∙ ap tag_bytes (sym c.in-Some.is) in
+    let q : t ≡ tag_bytes p.tag = c.tag_bytes.ensures ∙ ap tag_bytes (sym c.in-Some.is) in
     e4 ∙ w ∙ simp append_assoc (ap (λ (x : List ℕ). d ++ (s ++ (x ++ b))) q)
