@@ -16,22 +16,22 @@ returns-in-Some c =
     let h = c.in-Some.ensures in
     let d = c.requires.1.1.0 in
     record {
-      learned = over _ (hit_look xs at e.fid e.address d c.requires.0 h.2 h.3) (over_held xs at e.fid e.address e.port e.heard d c.requires.0 h.2 h.3) (c.heard-again.ensures ∙ ap (λ x. again x.port e.port) (get_or_default xs at _ free_entry h.2));
-      kept = kept_over xs e.fid at e.address e.port e.heard c.args.bounds.now _ c.requires.0 c.requires.1.0 d h.2 h.3 c.with-heard.ensures;
+      learned = over _ (hit_look xs at e.fid e.address d c.requires.0 h.2 h.3) (over_held xs at e.fid e.address e.port e.heard d c.requires.0 h.2 h.3) (c.heard_again.ensures ∙ ap (λ x. again x.port e.port) (get_or_default xs at _ free_entry h.2));
+      kept = kept_over xs e.fid at e.address e.port e.heard c.args.bounds.now _ c.requires.0 c.requires.1.0 d h.2 h.3 c.with_heard.ensures;
     }
 
-pub returns-then-not-has-room : goal.returns-then-not-has-room
-returns-then-not-has-room c =
+pub returns-then-not-has_room : goal.returns-then-not-has_room
+returns-then-not-has_room c =
     let k = c.requires.1.0 in
     record {
-      learned = full refl (absent c.args.records.now c.args.entry.fid c.args.entry.address c.args.bounds.now c.requires.0 k c.in-default.ensures) (omega (arith, k.held, ltb-false _ _ (sym c.if-not-has-room.ensures))) refl;
+      learned = full refl (absent c.args.records.now c.args.entry.fid c.args.entry.address c.args.bounds.now c.requires.0 k c.in_default.ensures) (omega (arith, k.held, ltb-false _ _ (sym c.if-not-has_room.ensures))) refl;
       kept = k;
     }
 
 pub unreachable-requires : goal.unreachable-requires
 unreachable-requires c =
     let k = c.requires.1.0 in
-    room c.args.records.now c.args.entry.fid c.args.entry.fid c.args.entry.address c.args.bounds.now k (omega (arith, ltb-true _ _ (sym c.if-not-has-room.ensures))) c.in-None.ensures
+    room c.args.records.now c.args.entry.fid c.args.entry.fid c.args.entry.address c.args.bounds.now k (omega (arith, ltb-true _ _ (sym c.if-not-has_room.ensures))) c.in-None.ensures
 
 pub returns : goal.returns
 returns c =
@@ -43,6 +43,6 @@ returns c =
     let u : is_free e ≡ false = ne_eqb e.fid 0 (λ z. omega arith) in
     let r = added_held xs at e h.2 h.3 u in
     record {
-      learned = added r.0 r.1 r.2 r.3 (absent xs e.fid e.address c.args.bounds.now c.requires.0 k c.in-default.ensures) (omega (arith, k.held, ltb-true _ _ (sym c.if-not-has-room.ensures))) refl;
-      kept = kept_added xs e.fid at c.in-Some-vacant.spot.steps c.args.bounds.now _ e c.requires.0 k refl h.2 h.3 h.1 h.0 c.with-new.ensures;
+      learned = added r.0 r.1 r.2 r.3 (absent xs e.fid e.address c.args.bounds.now c.requires.0 k c.in_default.ensures) (omega (arith, k.held, ltb-true _ _ (sym c.if-not-has_room.ensures))) refl;
+      kept = kept_added xs e.fid at c.in-Some-vacant.spot.steps c.args.bounds.now _ e c.requires.0 k refl h.2 h.3 h.1 h.0 c.with_new.ensures;
     }

@@ -7,11 +7,11 @@ use Rattle.recent.proofs.memory.recall.Goals as goal
 
 pub returns-in-Some : goal.returns-in-Some
 returns-in-Some c =
-    let e = sym (recall_hit _ _ _ _ _ _ c.loop-i-test.true (sym c.said-by.ensures ∙ c.in-Some.is)) ∙ c.loop-i.invariant in
+    let e = sym (recall_hit _ _ _ _ _ _ c.loop-i-test.true (sym c.said_by.ensures ∙ c.in-Some.is)) ∙ c.loop-i.invariant in
     record { answer = e; right = λ l r. recalled_right l _ _ _ _ e r }
 
 pub loop-i-preserved : goal.loop-i-preserved
-loop-i-preserved c = sym (recall_miss _ _ _ _ _ c.loop-i-test.true (sym c.said-by.ensures ∙ c.in-default.is)) ∙ c.loop-i.invariant
+loop-i-preserved c = sym (recall_miss _ _ _ _ _ c.loop-i-test.true (sym c.said_by.ensures ∙ c.in_default.is)) ∙ c.loop-i.invariant
 
 pub returns : goal.returns
 returns c =

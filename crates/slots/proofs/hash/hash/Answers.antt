@@ -4,4 +4,4 @@ use Rattle.slots.proofs.hash.hash.Goals as goal
 
 pub returns : goal.returns
 unfolding hash_of
-returns c = ap (λ k. mixed (spread k)) c.from-be-bytes-pair.ensures
+returns c = ap (λ k. mixed (spread k)) c.from_be_bytes-pair.ensures

@@ -10,7 +10,7 @@ loop-at-init g c = (c.requires.0, c.requires.1, refl)
 pub loop-at-preserved : goal.loop-at-preserved
 loop-at-preserved g c =
     let i = c.loop-at.invariant in
-    let learned = c.learn-one.ensures in (
+    let learned = c.learn_one.ensures in (
       learned.sound,
       filled_step _ _ _ _ _ i.2 i.1 learned.later,
       learned.share ∙ i.2,

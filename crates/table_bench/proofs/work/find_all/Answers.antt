@@ -10,8 +10,8 @@ loop-k-init g c = (c.requires.0, refl, refl, refl, omega arith)
 pub loop-k-preserved : goal.loop-k-preserved
 loop-k-preserved g c =
     let i = c.loop-k.invariant in
-    let found = c.find-one-sum.ensures in
-    let next = c.next-turn-at.ensures in (
+    let found = c.find_one-sum.ensures in
+    let next = c.next_turn-at.ensures in (
       found.sound,
       found.later ∙ i.1,
       turn_step _ _ _ _ _ i.2 next.value,

@@ -10,8 +10,8 @@ loop-k-init g c = (c.requires.0, refl, refl, refl, refl, omega arith)
 pub loop-k-preserved : goal.loop-k-preserved
 loop-k-preserved g c =
     let i = c.loop-k.invariant in
-    let learned = c.learn-one-sum.ensures in
-    let next = c.next-turn-at.ensures in (
+    let learned = c.learn_one-sum.ensures in
+    let next = c.next_turn-at.ensures in (
       learned.sound,
       heard_step _ _ _ _ _ _ _ _ _ i.2 i.3 i.1 learned.later,
       learned.share ∙ i.2,

@@ -22,7 +22,7 @@ returns c =
           small = c.requires.0;
           long = c.clear.auto.records ∙ c.requires.1;
           sixteen = refl;
-          kept = λ g lt. subst (λ b. Kept (g + 1) (stretch_of share g ys) b) (sym (get_or-replicate 16 g c.empty-bounds.result empty_bounds lt ∙ c.empty-bounds.ensures)) (kept_cut (g + 1) share g _ ys c.clear.ensures);
+          kept = λ g lt. subst (λ b. Kept (g + 1) (stretch_of share g ys) b) (sym (get_or-replicate 16 g c.empty_bounds.result empty_bounds lt ∙ c.empty_bounds.ensures)) (kept_cut (g + 1) share g _ ys c.clear.ensures);
         };
         orderly = subst (λ l. Orderly share l) (sym none) (orderly_none share);
       };

@@ -13,15 +13,15 @@ use Rattle.hashed.proofs.Row.{kept_swept, none_due}
 use Rattle.hashed.proofs.Cut.{part_is, kept_row, length_stretch, laid_put, stretch_own, swept_more, start_below}
 use Rattle.hashed.proofs.hashed.Hashed.expire_stretch.Goals as goal
 
-pub returns-then-none-due : goal.returns-then-none-due
-returns-then-none-due c =
+pub returns-then-none_due : goal.returns-then-none_due
+returns-then-none_due c =
     let s = c.args.self.now in
     let g = c.args.row in
     let laid = c.requires.1 in
     record {
       laid = laid;
       share = refl;
-      swept = λ xs h. swept_more s.share c.args.limit g xs _ _ h refl (sym (none_due c.args.limit (g + 1) _ _ (kept_row s (g + 1) g _ laid c.requires.0 refl) (ltb-true _ _ (sym c.if-none-due.ensures)))) refl;
+      swept = λ xs h. swept_more s.share c.args.limit g xs _ _ h refl (sym (none_due c.args.limit (g + 1) _ _ (kept_row s (g + 1) g _ laid c.requires.0 refl) (ltb-true _ _ (sym c.if-none_due.ensures)))) refl;
     }
 
 pub returns : goal.returns
@@ -33,10 +33,10 @@ returns c =
     let share = s.share in
     let limit = c.args.limit in
     let xs = s.records.now in
-    let start = c.start-of-start.result in
+    let start = c.start_of-start.result in
     let k = start + 2 * share - start in
     let e = start_of share g + 2 * share in
-    let at = c.start-of-start.ensures.value in
+    let at = c.start_of-start.ensures.value in
     let part = part_is share start g xs at in
     let ys = c.sweep.new.records in
     let top = start_below share g gl in
@@ -45,7 +45,7 @@ returns c =
     let own : stretch_of share g (put_mid start k xs ys) ≡ ys = ap (λ b. stretch_of share g (put_mid b k xs ys)) at ∙ stretch_own share g k xs ys gl laid.long long in
     let kept : Kept (g + 1) ys (measured ys) = subst (λ l. Kept (g + 1) l (measured l)) (sym ysm) (kept_swept limit (g + 1) (stretch_of share g xs) _ (laid.kept g gl)) in
     record {
-      laid = laid_put s _ g k ys _ laid gl (omega arith) long (ap (λ b. put_mid b k xs ys) at) refl refl (subst (λ b. Kept (g + 1) ys b) (sym (c.measure-stretch.ensures ∙ ap measured own)) kept);
+      laid = laid_put s _ g k ys _ laid gl (omega arith) long (ap (λ b. put_mid b k xs ys) at) refl refl (subst (λ b. Kept (g + 1) ys b) (sym (c.measure_stretch.ensures ∙ ap measured own)) kept);
       share = refl;
       swept = λ zs h. swept_more share limit g zs xs (put_mid start k xs ys) h
           (ap (λ b. take (start_of share g) (put_mid b k xs ys)) at ∙ take-put_mid_below (start_of share g) k xs ys (start_of share g) (omega arith) (omega (arith, laid.long)))

@@ -16,15 +16,15 @@ returns c =
     let s = c.args.self.now in
     let f = c.args.fid in
     let xs = s.records.now in
-    let g = c.row-of-row.result in
-    let start = c.start-of-start.result in
+    let g = c.row_of-row.result in
+    let start = c.start_of-start.result in
     let k = start + 2 * s.share - start in
     let ys = c.clear.new.records in
     let fid : is_fid f ≡ true = c.requires.0 in
     let r = fid_range f fid in
-    let fe : g + 1 ≡ f = c.row-of-row.ensures.value in
-    let gl : g < 16 = c.row-of-row.ensures.below in
-    let at = c.start-of-start.ensures.value in
+    let fe : g + 1 ≡ f = c.row_of-row.ensures.value in
+    let gl : g < 16 = c.row_of-row.ensures.below in
+    let at = c.start_of-start.ensures.value in
     let part = part_is s.share start g xs at in
     let laid = c.requires.1.laid in
     let long : length ys ≡ 2 * s.share = c.clear.auto.records ∙ ap length part ∙ length_stretch s.share g xs gl laid.long in
@@ -43,5 +43,5 @@ returns c =
       gone = flushed_is s.share (held_of xs) f _ fid c.requires.1.orderly n;
       later = flush_is s.share (held_of xs) _ f fid c.requires.1.orderly m;
       share = refl;
-      sound = record { laid = laid_put s _ g k ys _ laid gl (omega arith) long (ap (λ b. put_mid b k xs ys) at) refl refl (subst (λ b. Kept (g + 1) ys b) (sym c.empty-bounds.ensures) none.0); orderly = orderly_kept s.share (not_of_fid f) (held_of xs) _ c.requires.1.orderly m };
+      sound = record { laid = laid_put s _ g k ys _ laid gl (omega arith) long (ap (λ b. put_mid b k xs ys) at) refl refl (subst (λ b. Kept (g + 1) ys b) (sym c.empty_bounds.ensures) none.0); orderly = orderly_kept s.share (not_of_fid f) (held_of xs) _ c.requires.1.orderly m };
     }

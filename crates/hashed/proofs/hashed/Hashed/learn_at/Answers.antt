@@ -13,27 +13,27 @@ pub learn-mark-requires : goal.learn-mark-requires
 learn-mark-requires c =
     let s = c.args.self.now in
     let f = c.args.entry.fid in
-    let g = c.row-of-row.result in
+    let g = c.row_of-row.result in
     let r = fid_range f c.requires.0 in
-    let fe : g + 1 ≡ f = c.row-of-row.ensures.value in
-    let part = part_is s.share c.start-of-start.result g s.records.now c.start-of-start.ensures.value in
-    (r.0, (kept_part s f g _ _ c.requires.1.laid c.row-of-row.ensures.below fe c.start-of-start.ensures.value, (subst (λ l. distinct (held_of l) ≡ true) (sym part) (distinct_row s g c.requires.1), ap length part ∙ length_stretch s.share g s.records.now c.row-of-row.ensures.below c.requires.1.laid.long)))
+    let fe : g + 1 ≡ f = c.row_of-row.ensures.value in
+    let part = part_is s.share c.start_of-start.result g s.records.now c.start_of-start.ensures.value in
+    (r.0, (kept_part s f g _ _ c.requires.1.laid c.row_of-row.ensures.below fe c.start_of-start.ensures.value, (subst (λ l. distinct (held_of l) ≡ true) (sym part) (distinct_row s g c.requires.1), ap length part ∙ length_stretch s.share g s.records.now c.row_of-row.ensures.below c.requires.1.laid.long)))
 
 pub returns : goal.returns
 returns c =
     let s = c.args.self.now in
     let f = c.args.entry.fid in
     let xs = s.records.now in
-    let g = c.row-of-row.result in
-    let start = c.start-of-start.result in
+    let g = c.row_of-row.result in
+    let start = c.start_of-start.result in
     let k = start + 2 * s.share - start in
     let ys = c.learn-mark.new.records in
     let e = c.args.entry in
     let fid : is_fid f ≡ true = c.requires.0 in
     let r = fid_range f fid in
-    let fe : g + 1 ≡ f = c.row-of-row.ensures.value in
-    let gl : g < 16 = c.row-of-row.ensures.below in
-    let at = c.start-of-start.ensures.value in
+    let fe : g + 1 ≡ f = c.row_of-row.ensures.value in
+    let gl : g < 16 = c.row_of-row.ensures.below in
+    let at = c.start_of-start.ensures.value in
     let part = part_is s.share start g xs at in
     let laid = c.requires.1.laid in
     let long : length ys ≡ 2 * s.share = c.learn-mark.auto.records ∙ ap length part ∙ length_stretch s.share g xs gl laid.long in

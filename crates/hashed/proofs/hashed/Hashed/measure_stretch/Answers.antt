@@ -6,4 +6,4 @@ use Rattle.hashed.proofs.hashed.Hashed.measure_stretch.Goals as goal
 pub returns : goal.returns
 returns c =
     let s = c.args.self.now in
-    c.measure.ensures ∙ ap measured (part_is s.share _ c.args.row s.records.now c.start-of-start.ensures.value)
+    c.measure.ensures ∙ ap measured (part_is s.share _ c.args.row s.records.now c.start_of-start.ensures.value)
