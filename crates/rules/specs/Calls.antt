@@ -67,12 +67,12 @@ memory_needed σ = σ.ports * σ.classes * σ.depth * 1518
 
 -- the decided ports that have room get the frame (14: there is a decided port)
 abbrev pub flood : Settings → State → ℕ → Picture → Vlan → ℕ → Mark → PortSet → Outcome
-flood σ s q frame v priority mark slice_set =
-    cond (any_in slice_set.ports)
+flood σ s q frame v priority mark set =
+    cond (any_in set.ports)
     (outcome
     (received
     (record { classified = (v.vid, priority); decided = set; no_room = without_room σ s (class_of σ.classes priority) set; mark = mark }))
-    (laid σ s slice_set (without_room σ s (class_of σ.classes priority) slice_set) (class_of σ.classes priority) (sendable frame v priority)))
+    (laid σ s set (without_room σ s (class_of σ.classes priority) set) (class_of σ.classes priority) (sendable frame v priority)))
     (refusing (NoEgressPort mark) s)
 
 -- after learning: the port forwards (12), the destination is not reserved (13)

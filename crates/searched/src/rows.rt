@@ -1,6 +1,5 @@
 // The records of a searched table: the first `used` of them hold entries, in the order in which they came.
-ghost use Rattle.std.specs.Prelude.{◌≡◌, ℕ, ◌+◌, ◌<◌, ◌≤◌, [], ◌∷◌, ◌++◌, length};
-ghost use Rattle.std.specs.shelf.Lists.{«kept_by»};
+ghost use Rattle.std.specs.Prelude.{◌≡◌, ℕ, ◌+◌, ◌<◌, ◌≤◌, [], ◌∷◌, ◌++◌, length, filter};
 ghost use Rattle.table.specs.Entries.{count_of};
 ghost use Rattle.table.specs.Records.{rewritten};
 ghost use Rattle.searched.specs.Records.{Sits, oldest_of, passes, place_of, taken};
@@ -77,7 +76,7 @@ impl<'a> Rows<'a> {
     // Removes the entries that do not pass, and moves the others up.
     pub(crate) fn retain(&mut self, keep: Keep)
         requires { Sits self.old }
-        ensures later { taken self.new ≡ kept_by (passes keep) (taken self.old) }
+        ensures later { taken self.new ≡ filter (passes keep) (taken self.old) }
         ensures sits { Sits self.new }
         ensures room { length self.new.all.now ≡ length self.old.all.now }
     {

@@ -1,6 +1,5 @@
 // The table itself: every call is a search over the records that are in use.
-ghost use Rattle.std.specs.Prelude.{◌≡◌, ◌*◌, ◌/◌, min, true, false, [], length, replicate, if◌then◌else◌, None, nat_eq, nat_le};
-ghost use Rattle.std.specs.shelf.Lists.{«kept_by»};
+ghost use Rattle.std.specs.Prelude.{◌≡◌, ◌*◌, ◌/◌, min, true, false, [], length, replicate, if◌then◌else◌, None, filter, nat_eq, nat_le};
 ghost use Rattle.fault.specs.declared.mark.Mark.TheVariants.{Known, Moved};
 ghost use Rattle.table.specs.Calls.{after_expire, port_of};
 ghost use Rattle.table.specs.Entries.{count_of, free_entry, is_fid, lookup};
@@ -117,7 +116,7 @@ impl<'a> Searched<'a> {
     // Removes the entries that do not pass.
     fn remove(&mut self, keep: Keep)
         requires { Sound self.old }
-        ensures later { set_of self.new ≡ kept_by (passes keep) (set_of self.old) }
+        ensures later { set_of self.new ≡ filter (passes keep) (set_of self.old) }
         ensures share { self.new.share ≡ self.old.share }
         ensures oldest { self.new.oldest ≡ oldest_of (taken self.new.rows) }
         ensures sound { Sound self.new }
