@@ -3,7 +3,7 @@ use Rattle.inspect.specs.declared.line.Step.TheVariants.{Pass, Half, Whole, Comm
 use Rattle.inspect.specs.Text.{bytes_from}
 use Rattle.inspect.proofs.Reading.{after_after, at_start_lem, over_character, renamed, at_end}
 use Rattle.inspect.proofs.line.gather.Goals as goal
-use Rattle.inspect.proofs.line.gather.Goals.{in-Pass, in-Half, in-Whole+in_ok-push}
+use Rattle.inspect.proofs.line.gather.Goals.{in-Pass, in-Half, in-Whole+in_ok-push-in-Whole}
 
 pub loop-place-init : goal.loop-place-init
 loop-place-init c = at_start_lem c.args.text.now (vec_items c.args.frame.now) c.requires
@@ -21,9 +21,9 @@ loop-place-preserved c =
       | in-Half w ↦
           renamed text (place + 1) (ap vec_items w.frame-is) w.waiting-is
           (over_character text front place waiting (Half w.in-Half.high) c.loop-place-test.true w.in-Half.ensures c.loop-place.invariant)
-      | in-Whole+in_ok-push w ↦
+      | in-Whole+in_ok-push-in-Whole w ↦
           let value = w.in-Whole.value in
-          renamed text (place + 1) (ap vec_items w.frame-is ∙ w.in_ok-push.ensures.items) w.waiting-is
+          renamed text (place + 1) (ap vec_items w.frame-is ∙ w.in_ok-push-in-Whole.ensures.items) w.waiting-is
           (after_after front (value ∷ []) (bytes_from (place + 1) None (drop (place + 1) text)) ∙
           over_character text front place waiting (Whole value) c.loop-place-test.true w.in-Whole.ensures c.loop-place.invariant)
     ]
