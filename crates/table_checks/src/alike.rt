@@ -89,36 +89,35 @@ impl Seen {
 }
 
 // Makes one call at both tables.
-fn both<A: Table, B: Table>(
-    rt: &impl Abort,
-    a: &mut A,
-    b: &mut B,
-    call: Call,
-    seen: &mut Seen,
-) -> Result<(), Fail>
-    requires { (A.Table.sound a.old) × (B.Table.sound b.old) }
-    ensures { (A.Table.sound a.new) × (B.Table.sound b.new) }
+fn both<A: Table, B: Table>(a: &mut A, b: &mut B, call: Call) -> (Answer, Answer)
+    requires a { A.sound a.old }
+    requires b { B.sound b.old }
+    ensures a { A.sound a.new }
+    ensures b { B.sound b.new }
 {
-    let answered = ask(a, call);
-    seen.count(answered);
-    assert_eq!(rt; ask(b, call), answered);
-    Ok(())
+    let first = ask(a, call);
+    (first, ask(b, call))
 }
 
 // The run, and at its end a flush of every database.
-fn run<A: Table, B: Table>(rt: &impl Abort, a: &mut A, b: &mut B) -> Result<Seen, Fail>
-    requires { (A.Table.sound a.old) × (B.Table.sound b.old) }
+fn run<A: Table, B: Table>(rt: &impl Abort, a: &mut A, b: &mut B) -> Seen
+    requires a { A.sound a.old }
+    requires b { B.sound b.old }
 {
     let mut seen = Seen::nothing();
     let mut dice = 0x9e37_79b9_7f4a_7c15;
     for now in 0..CALLS {
         dice = roll(dice);
-        both(rt, a, b, drawn(dice, now), &mut seen).note(format_args!("call {now}"))?;
+        let (answered, other) = both(a, b, drawn(dice, now));
+        assert_eq!(rt; other, answered, "call {now}");
+        seen.count(answered);
     }
     for fid in 1..=16u8 {
-        both(rt, a, b, Call::Flush(fid), &mut seen).note(format_args!("the last flush of {fid}"))?;
+        let (answered, other) = both(a, b, Call::Flush(fid));
+        assert_eq!(rt; other, answered, "the last flush of {fid}");
+        seen.count(answered);
     }
-    Ok(seen)
+    seen
 }
 
 // The numbers are those of tally/tests/table_counts.rs, which plays the same run at a plain map. Each kind of
@@ -145,7 +144,7 @@ fn searched_and_hashed(rt: HostRuntime) -> Result<(), Fail> {
         &rt,
         &mut Searched::new(for_few, &mut few),
         &mut Hashed::new(for_many, &mut many),
-    )?;
+    );
     check_counts(&rt, seen);
     Ok(())
 }
@@ -159,7 +158,7 @@ fn searched_and_a_recent_list_over_another(rt: HostRuntime) -> Result<(), Fail> 
         &rt,
         &mut Searched::new(checked, &mut few),
         &mut Recent::new(Searched::new(checked, &mut others)),
-    )?;
+    );
     check_counts(&rt, seen);
     Ok(())
 }
@@ -174,7 +173,7 @@ fn searched_and_a_recent_list_over_hashed(rt: HostRuntime) -> Result<(), Fail> {
         &rt,
         &mut Searched::new(for_few, &mut few),
         &mut Recent::new(Hashed::new(for_many, &mut many)),
-    )?;
+    );
     check_counts(&rt, seen);
     Ok(())
 }
