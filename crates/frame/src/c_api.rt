@@ -1,4 +1,4 @@
-// Reading for programs in other languages: bytes in, one number out.
+// Reading for programs in other languages: bytes in, one number out. `frame_c` exports it.
 ghost use Rattle.std.specs.Prelude.{◌≡◌};
 ghost use Rattle.frame.specs.Packed.{packed};
 ghost use Rattle.frame.specs.Reading.{parse};
@@ -6,8 +6,7 @@ ghost use Rattle.frame.specs.Reading.{parse};
 use crate::read::read;
 
 // VID + 4,096 × priority + 32,768 when tagged, 0 when untagged, 65,536 × the refusal's number.
-#[unsafe(no_mangle)]
-pub extern "C" fn bridge_read_frame(frame: &[u8]) -> u32
+pub fn bridge_read_frame(frame: &[u8]) -> u32
     ensures { result ≡ packed (parse frame.now) }
 {
     match read(frame) {
