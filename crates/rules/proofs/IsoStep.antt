@@ -10,7 +10,7 @@ use Rattle.fault.specs.declared.refusal.Refusal.TheVariants.{NotStarted, PortOut
 use Rattle.frame.specs.Address.{group, reserved}
 use Rattle.frame.specs.Reading.{Picture, parse}
 use Rattle.table.specs.declared.entry.Entry.{Entry}
-use Rattle.table.specs.Calls.{after_learn, answered, flushed, mark_at, port_of as entryPort}
+use Rattle.table.specs.Calls.{after_learn, answered, flushed, mark_at, port_of as entry_port}
 use Rattle.table.specs.Entries.{count_of, lookup}
 use Rattle.rules.specs.declared.ports.PortEvent.{PortEvent}
 use Rattle.rules.specs.declared.ports.PortSet.{PortSet}
@@ -73,7 +73,7 @@ abbrev set_of : (ℕ → Bool) → PortSet
 set_of h = record { ports = map h sixteen }
 
 abbrev through : Bool → Verdict → Bool → Bool → Option Entry → ℕ → Bool
-through g x yes' no' o p = cond g (not (is_filter x)) (cond yes' true (cond no' false (entry_lets (entryPort o) p)))
+through g x yes' no' o p = cond g (not (is_filter x)) (cond yes' true (cond no' false (entry_lets (entry_port o) p)))
 
 same_beside : (f : ℕ) (s : State) (m : List Entry) (k : ℕ → ℕ → List Queued) (n : ℕ → ℕ → ℕ) → View f s.entries m → Same f s (beside s m k n)
 same_beside f s m k n h = record { started = refl; clock = refl; states = refl; entries = h }

@@ -4,7 +4,7 @@ use Rattle.std.specs.Str.{bytes_eq}
 use Rattle.fault.specs.declared.mark.Mark.{Mark}
 use Rattle.fault.specs.declared.mark.Mark.TheVariants.{Unlearned}
 use Rattle.frame.specs.Address.{group}
-use Rattle.table.specs.Calls.{after_learn, mark_at, port_of as entryPort}
+use Rattle.table.specs.Calls.{after_learn, mark_at, port_of as entry_port}
 use Rattle.table.specs.Entries.{count_of, lookup}
 use Rattle.table.specs.declared.entry.Entry.{Entry}
 use Rattle.rules.specs.declared.ports.PortSet.{PortSet}
@@ -62,7 +62,7 @@ abbrev pub let_through : Settings → State → Vlan → List ℕ → ℕ → Bo
 let_through σ s v a p =
     cond (group a) (not (is_filter (verdict_at σ v.vid a p)))
     (cond (any_says is_forward σ σ.statics v.fid a p) true
-    (cond (any_says is_filter σ σ.statics v.fid a p) false (entry_lets (entryPort (lookup s.entries v.fid a)) p)))
+    (cond (any_says is_filter σ σ.statics v.fid a p) false (entry_lets (entry_port (lookup s.entries v.fid a)) p)))
 
 -- whether a frame that arrived at port q goes to port p
 abbrev pub decides : Settings → State → ℕ → Vlan → List ℕ → ℕ → Bool
