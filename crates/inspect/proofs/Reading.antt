@@ -1,6 +1,6 @@
 -- A line is read from its front: what is read so far, followed by what the rest gives, is what the whole line gives.
 -- These lemmas carry that over a character and to the end.
-use Rattle.std.proofs.Common.{◌≡◌, ℕ, ◌+◌, ◌<◌, List, [], ◌∷◌, ◌++◌, length, get_or, drop, None, Ok, Err, Option, Result, refl, ap, append_assoc}
+use Rattle.std.proofs.Common.{◌≡◌, ℕ, ◌+◌, ◌<◌, List, [], ◌++◌, length, get_or, drop, None, Ok, Err, Option, Result, refl, ap, append_assoc}
 use lib.Seq.{drop-length}
 use Rattle.std.proofs.lemmas.List.{drop_more}
 use Rattle.inspect.specs.declared.line.Malformed.{Malformed}

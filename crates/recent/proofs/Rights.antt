@@ -1,13 +1,12 @@
 -- The remembered answers stay right over each call.
-use Rattle.std.proofs.Common.{◌≡◌, ℕ, zero, suc, ◌<◌, ◌≤◌, Bool, true, false, cond, ◌&&◌, eqb, ◌≢◌, ◌⊎◌, List, [], ◌∷◌, map, length, get_or, set, is_some, Some, None, Ok, Err, Option, Result, sym, refl, ap, ◌∙◌, subst, inl, inr, ⊎_elim, arith}
-use Rattle.std.specs.Str.{bytes_eq}
+use Rattle.std.proofs.Common.{◌≡◌, ℕ, suc, ◌<◌, ◌≤◌, Bool, true, false, cond, ◌≢◌, List, [], ◌∷◌, map, length, get_or, set, is_some, Some, None, Ok, Option, Result, sym, refl, ap, ◌∙◌, subst, ⊎_elim, arith}
 use Rattle.std.proofs.lemmas.List.{get_or-set_same, get_or-set_other, set_past, get_or_past, get_or-map, length-map}
 use Rattle.std.proofs.lemmas.Bool.{cases_eq, cases_lt, eqb-false}
 use Rattle.fault.specs.declared.refusal.Refusal.{Refusal}
 use Rattle.fault.specs.declared.mark.Mark.{Mark}
 use Rattle.fault.specs.declared.mark.Mark.TheVariants.{New, Known, Moved, Full, Unlearned}
 use Rattle.table.specs.declared.entry.Entry.{Entry}
-use Rattle.table.specs.Entries.{new_entry, has_key}
+use Rattle.table.specs.Entries.{new_entry}
 use Rattle.table.specs.Calls.{answered, marked, after_learn, after_expire, after_flush}
 use Rattle.table.proofs.Records.{key_is, key_sym}
 use Rattle.table.proofs.Views.{view_flush, view_answer}

@@ -3,7 +3,7 @@
 use Rattle.std.proofs.Common.{◌≡◌, ℕ, suc, Bool, true, false, cond, ◌&&◌, eqb, List, [], ◌∷◌, ◌++◌, map, length, None, sym, refl, ap, ◌∙◌, subst, ap₂, subst₂, append-nil}
 use Rattle.std.proofs.lemmas.Bool.{and_parts, and_right, cond-false, cond-true, eqb-true}
 use Rattle.rules.specs.declared.answers.Received.{Received}
-use Rattle.rules.specs.Calls.{Answer, Call, advance, event, find, flush, receive, received, send, sent, standing}
+use Rattle.rules.specs.Calls.{Answer, Call, advance, event, find, flush, receive, send, standing}
 use Rattle.rules.specs.Egress.{class_of, lays, sendable}
 use Rattle.rules.specs.Laws.{Ascending, Delivery, Paired, Pairing, Receipt, accepted, as_emptied, as_received, as_sent, delivery_in, delivery_of, handed_from, queued_from, receipt_in, receipt_of, restarts}
 use Rattle.rules.specs.Runs.{Path', Step}

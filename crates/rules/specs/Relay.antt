@@ -6,13 +6,11 @@ use Rattle.fault.specs.declared.mark.Mark.TheVariants.{Unlearned}
 use Rattle.frame.specs.Address.{group}
 use Rattle.table.specs.Calls.{after_learn, mark_at, port_of as entry_port}
 use Rattle.table.specs.Entries.{count_of, lookup}
-use Rattle.table.specs.declared.entry.Entry.{Entry}
 use Rattle.rules.specs.declared.ports.PortSet.{PortSet}
 use Rattle.rules.specs.declared.ports.PortState.{PortState}
 use Rattle.rules.specs.declared.ports.PortState.TheVariants.{Disabled, Blocking, Listening, Learning, Forwarding}
 use Rattle.rules.specs.declared.vlans.StaticEntry.{StaticEntry}
 use Rattle.rules.specs.declared.vlans.Verdict.{Verdict}
-use Rattle.rules.specs.declared.vlans.Verdict.TheVariants.{Forward, Filter, Silent}
 use Rattle.rules.specs.declared.vlans.Vlan.{Vlan}
 use Rattle.rules.specs.Settings.{Settings, has, is_filter, is_forward, is_of, is_silent, verdict_at, vlan_of}
 use Rattle.rules.specs.State.{State, sixteen, state_of, with_entries}

@@ -1,7 +1,7 @@
 -- Taking turns goes upward from the class picked last at the port: first the class above it, then the
 -- next, past 7 round to 0. The class picked last comes last of all. `NextUp` says in words what the
 -- class found that way is.
-use Rattle.std.specs.Prelude.{◌≡◌, ℕ, ◌+◌, ◌%◌, ◌<◌, ◌≤◌, Bool, true, false, List, [], ◌∷◌, map, set, Some, None, Option, slice_set}
+use Rattle.std.specs.Prelude.{◌≡◌, ℕ, ◌+◌, ◌%◌, ◌<◌, ◌≤◌, Bool, true, false, List, [], ◌∷◌, map, Some, None, Option, slice_set}
 use Rattle.selector.specs.declared.turns.TakingTurns.{TakingTurns}
 use Rattle.selector.specs.Classes.{holds, first_held}
 

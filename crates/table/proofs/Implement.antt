@@ -1,5 +1,5 @@
 -- For tables that keep entries l in any order, no two of one pair: what they answer and leave is what the rising list of l says.
-use Rattle.std.proofs.Common.{◌≡◌, ℕ, ◌+◌, ◌<◌, ◌≤◌, Bool, true, false, cond, not, ◌&&◌, eqb, ltb, leb, List, [], ◌∷◌, ◌++◌, Some, None, Ok, Err, filter, Option, Result, sym, refl, ap, ◌∙◌, subst, arith}
+use Rattle.std.proofs.Common.{◌≡◌, ℕ, ◌<◌, ◌≤◌, Bool, true, false, cond, List, [], ◌∷◌, ◌++◌, Some, None, Ok, Err, filter, Option, Result, sym, refl, ap, ◌∙◌, arith}
 use Rattle.fault.specs.declared.mark.Mark.{Mark}
 use Rattle.fault.specs.declared.refusal.Refusal.{Refusal}
 use Rattle.fault.specs.declared.refusal.Refusal.TheVariants.{FidOutOfRange}
@@ -7,7 +7,7 @@ use Rattle.std.proofs.lemmas.Bool.{lt-ltb, le-ltb}
 use Rattle.table.specs.declared.entry.Entry.{Entry}
 use Rattle.table.specs.Entries.{is_fid, new_entry, has_key, lookup, not_of_fid, count_of, fids_in_range}
 use Rattle.table.specs.Rising.{insert, rising}
-use Rattle.table.specs.Calls.{port_of, answered, mark_at, marked, learn_at, after_learn, heard_after, after_expire, flushed, after_flush}
+use Rattle.table.specs.Calls.{port_of, answered, mark_at, marked, learn_at, after_learn, flushed, after_flush}
 use Rattle.table.specs.Records.{holds, rewritten, Orderly}
 use Rattle.table.proofs.Records.{holds_split, holds_some, holds_none}
 use Rattle.table.proofs.Rising.{look_rising, count_rising, kept_rising, range_rising, rising_in, rising_written}

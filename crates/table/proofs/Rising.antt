@@ -1,5 +1,5 @@
 -- Rising lists: inserting, looking up, counting, filtering, and the rising list of entries in any order.
-use Rattle.std.proofs.Common.{◌≡◌, ℕ, ◌+◌, ◌<◌, ◌≤◌, Bool, true, false, cond, not, ◌&&◌, eqb, ltb, leb, List, [], ◌∷◌, ◌++◌, Some, None, filter, Option, Ordering, Less, Equal, Greater, sym, refl, ap, ◌∙◌, subst, arith}
+use Rattle.std.proofs.Common.{◌≡◌, ℕ, ◌+◌, Bool, true, false, cond, not, ◌&&◌, eqb, List, [], ◌∷◌, ◌++◌, Some, filter, Option, Ordering, Less, Equal, Greater, sym, refl, ap, ◌∙◌, arith}
 use Rattle.std.specs.Ordering.{is_lt}
 use Rattle.std.specs.Str.{bytes_eq}
 use Rattle.std.proofs.lemmas.Bool.{and_parts, and_from, not-true, true≢false, both_ways}
@@ -7,7 +7,7 @@ use Rattle.table.specs.declared.entry.Entry.{Entry}
 use Rattle.table.specs.Entries.{is_fid, new_entry, has_key, lookup, count_of, fids_in_range}
 use Rattle.table.specs.Rising.{order, insert_by, insert, rising, comes_before, rises}
 use Rattle.table.specs.Records.{holds, distinct, rewritten}
-use Rattle.table.proofs.Order.{order_flip, order_trans, order_key, key_order, order_left, order_right, order_more, order_less, order_eq}
+use Rattle.table.proofs.Order.{order_trans, order_key, key_order, order_left, order_right, order_more, order_less, order_eq}
 use Rattle.table.proofs.Records.{key_is, key_of, some, holds_is, holds_split}
 
 -- keys

@@ -1,6 +1,5 @@
 -- What a call leaves of one filtering database, and what it answers about it, is a matter of the entries of that database alone.
-use Rattle.std.proofs.Common.{◌≡◌, ℕ, ◌+◌, ◌<◌, ◌≤◌, Bool, true, false, cond, not, ◌&&◌, eqb, ltb, leb, List, [], ◌∷◌, ◌++◌, length, Some, None, Ok, Err, filter, Option, Result, Ordering, Less, Equal, Greater, sym, refl, ap, ◌∙◌, subst, arith}
-use Rattle.std.specs.Ordering.{is_lt}
+use Rattle.std.proofs.Common.{◌≡◌, ℕ, ◌+◌, Bool, true, false, cond, not, ◌&&◌, eqb, ltb, List, [], ◌∷◌, length, Some, None, Ok, Err, filter, Option, Result, Ordering, Less, Equal, Greater, sym, refl, ap, ◌∙◌, arith}
 use Rattle.fault.specs.declared.mark.Mark.{Mark}
 use Rattle.fault.specs.declared.refusal.Refusal.{Refusal}
 use Rattle.fault.specs.declared.refusal.Refusal.TheVariants.{FidOutOfRange}
@@ -9,7 +8,7 @@ use Rattle.std.proofs.lemmas.Bool.{eqb-true, eq-eqb, ne_eqb, both_ways}
 use Rattle.table.specs.declared.entry.Entry.{Entry}
 use Rattle.table.specs.Entries.{is_fid, new_entry, has_key, lookup, of_fid, not_of_fid, entries_of, count_of}
 use Rattle.table.specs.Rising.{order, insert_by, insert, rises}
-use Rattle.table.specs.Calls.{port_of, answered, mark_at, marked, learn_at, after_learn, heard_after, after_expire, flushed, after_flush}
+use Rattle.table.specs.Calls.{port_of, answered, mark_at, marked, learn_at, after_learn, after_expire, flushed, after_flush}
 use Rattle.table.proofs.Order.{order_key}
 use Rattle.table.proofs.Rising.{kept_insert}
 

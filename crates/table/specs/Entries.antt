@@ -1,6 +1,6 @@
 -- A table means a set of entries, at most one for each pair of a filtering database (by its number,
 -- the FID) and an address. The set is written as a list. This file has the words for looking into it.
-use Rattle.std.specs.Prelude.{ℕ, ◌+◌, Bool, true, false, cond, not, ◌&&◌, List, [], ◌∷◌, Some, None, filter, Option, ◌==◌, nat_le}
+use Rattle.std.specs.Prelude.{ℕ, ◌+◌, Bool, true, cond, not, ◌&&◌, List, [], ◌∷◌, Some, None, filter, Option, ◌==◌, nat_le}
 use Rattle.std.specs.Str.{bytes_eq}
 use Rattle.table.specs.declared.entry.Entry.{Entry}
 

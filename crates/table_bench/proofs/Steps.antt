@@ -1,5 +1,5 @@
 -- One step more of each count.
-use Rattle.std.proofs.Common.{◌≡◌, ℕ, ◌+◌, ◌/◌, List, sym, refl, ap, ◌∙◌, add-one}
+use Rattle.std.proofs.Common.{◌≡◌, ℕ, ◌+◌, ◌/◌, List, sym, ap, ◌∙◌, add-one}
 use Rattle.table.specs.declared.entry.Entry.{Entry}
 use Rattle.table.specs.Calls.{answered, marked, after_learn}
 use Rattle.table_bench.specs.Work.{fid_at, port_at, address_at, strode, turn_of, filled, find_sum, heard_again, learn_sum, plus, worth_of, worth_of_mark}

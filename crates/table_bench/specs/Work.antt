@@ -1,7 +1,7 @@
 -- The work that is timed, as what it does to a table's set. Every kind of table does the same, so that its
 -- checksum is one number for all of them. Entries are counted through all sixteen filtering databases, so
 -- that neighbours are of different ones; the same addresses stand in each.
-use Rattle.std.specs.Prelude.{ℕ, zero, suc, ◌+◌, ◌-◌, ◌*◌, ◌/◌, ◌%◌, ◌^◌, min, max, cond, List, [], ◌∷◌, Some, None, Ok, Err, Option, Result, nat_lt}
+use Rattle.std.specs.Prelude.{ℕ, zero, suc, ◌+◌, ◌-◌, ◌/◌, ◌%◌, ◌^◌, cond, List, [], ◌∷◌, Some, None, Ok, Err, Option, Result, nat_lt}
 use Rattle.fault.specs.declared.mark.Mark.{Mark}
 use Rattle.fault.specs.declared.mark.Mark.TheVariants.{New, Known, Moved, Full, Unlearned}
 use Rattle.fault.specs.declared.refusal.Refusal.{Refusal}

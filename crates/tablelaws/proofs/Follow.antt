@@ -1,9 +1,9 @@
 -- The laws of each call, from what it answers and leaves.
-use Rattle.std.proofs.Common.{◌≡◌, ℕ, ◌+◌, ◌<◌, ◌≤◌, Bool, true, false, cond, eqb, ltb, List, [], ◌∷◌, Some, None, Ok, Err, Option, Result, Ordering, Less, Equal, Greater, sym, refl, ap, ◌∙◌, subst, arith}
+use Rattle.std.proofs.Common.{◌≡◌, ℕ, ◌+◌, ◌≤◌, Bool, true, false, cond, eqb, ltb, List, [], ◌∷◌, Some, None, Ok, Err, Option, Result, Ordering, Less, Equal, Greater, sym, refl, ap, ◌∙◌, subst, arith}
 use Rattle.std.specs.Ordering.{is_lt}
 use Rattle.std.proofs.lemmas.Bool.{and_parts, and_from, ltb-false, eq-eqb, both_ways, true≢false}
 use Rattle.fault.specs.declared.mark.Mark.{Mark}
-use Rattle.fault.specs.declared.mark.Mark.TheVariants.{New, Known, Moved, Full, Unlearned}
+use Rattle.fault.specs.declared.mark.Mark.TheVariants.{New, Known, Moved, Full}
 use Rattle.fault.specs.declared.refusal.Refusal.{Refusal}
 use Rattle.fault.specs.declared.refusal.Refusal.TheVariants.{FidOutOfRange}
 use Rattle.table.specs.declared.entry.Entry.{Entry}
@@ -13,8 +13,8 @@ use Rattle.table.specs.Calls.{port_of, answered, mark_at, marked, learn_at, afte
 use Rattle.table.specs.Records.{holds}
 use Rattle.table.proofs.Order.{order_key, key_order}
 use Rattle.table.proofs.Records.{key_is, key_of, holds_none, holds_some, count_kept}
-use Rattle.table.proofs.Rising.{own_key, is_less, less_not, before_far, look_insert, count_insert}
-use Rattle.table.proofs.Views.{view_learn, view_flush, view_expire, view_count, own_answer, own_mark, own_learn, own_flushed, own_flush, flush_none}
+use Rattle.table.proofs.Rising.{is_less, less_not, before_far, look_insert, count_insert}
+use Rattle.table.proofs.Views.{view_learn, view_flush, view_expire, own_answer, own_mark, own_learn, own_flushed, own_flush, flush_none}
 use Rattle.table.proofs.After.{marked_at, full_at, answer_other}
 use Rattle.tablelaws.specs.Laws.{Finds, is_new, Learns, Expires, Flushes, FoundAfter}
 

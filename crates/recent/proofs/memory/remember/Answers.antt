@@ -1,4 +1,4 @@
-use Rattle.std.proofs.Common.{◌≡◌, Some, sym, refl}
+use Rattle.std.proofs.Common.{Some, sym, refl}
 use Rattle.std.proofs.lemmas.List.{set_past}
 use Rattle.recent.proofs.Rights.{remembers}
 use Rattle.recent.proofs.memory.remember.Goals as goal

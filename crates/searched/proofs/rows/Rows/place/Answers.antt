@@ -1,4 +1,4 @@
-use Rattle.std.proofs.Common.{◌≡◌, sym, ◌∙◌, arith}
+use Rattle.std.proofs.Common.{sym, ◌∙◌, arith}
 use Rattle.searched.specs.Records.{place_of}
 use Rattle.searched.proofs.Turns.{place_hit, place_miss, past}
 use Rattle.searched.proofs.rows.Rows.place.Goals as goal
