@@ -1,4 +1,4 @@
-//! Links the static library of the proved frame reader, which `rt staticlib frame` writes.
+//! Links the static library of the proved frame reader, which `c-library.sh` writes.
 
 use std::env;
 use std::path::Path;
@@ -10,7 +10,7 @@ fn main() {
     println!("cargo::rerun-if-changed={}", archive.display());
     if !archive.is_file() {
         println!(
-            "cargo::error=target/staticlib/libframe.a is missing: run `rt staticlib frame` in the repository's root first"
+            "cargo::error=target/staticlib/libframe.a is missing: run `./c-library.sh` in the repository's root first"
         );
         return;
     }

@@ -1,4 +1,4 @@
-//! Links the static library with the tables' work, which `rt staticlib table_bench` writes.
+//! Links the static library with the tables' work, which `c-library.sh table_bench` writes.
 
 use std::env;
 use std::path::Path;
@@ -10,7 +10,7 @@ fn main() {
     println!("cargo::rerun-if-changed={}", archive.display());
     if !archive.is_file() {
         println!(
-            "cargo::error=target/staticlib/libtable_bench.a is missing: run `rt staticlib table_bench` in the repository's root first"
+            "cargo::error=target/staticlib/libtable_bench.a is missing: run `./c-library.sh table_bench` in the repository's root first"
         );
         return;
     }

@@ -90,10 +90,8 @@ impl Seen {
 
 // Makes one call at both tables.
 fn both<A: Table, B: Table>(a: &mut A, b: &mut B, call: Call) -> (Answer, Answer)
-    requires a { A.sound a.old }
-    requires b { B.sound b.old }
-    ensures a { A.sound a.new }
-    ensures b { B.sound b.new }
+    requires { (A.Table.sound a.old) × (B.Table.sound b.old) }
+    ensures { (A.Table.sound a.new) × (B.Table.sound b.new) }
 {
     let first = ask(a, call);
     (first, ask(b, call))
@@ -101,8 +99,7 @@ fn both<A: Table, B: Table>(a: &mut A, b: &mut B, call: Call) -> (Answer, Answer
 
 // The run, and at its end a flush of every database.
 fn run<A: Table, B: Table>(rt: &impl Abort, a: &mut A, b: &mut B) -> Seen
-    requires a { A.sound a.old }
-    requires b { B.sound b.old }
+    requires { (A.Table.sound a.old) × (B.Table.sound b.old) }
 {
     let mut seen = Seen::nothing();
     let mut dice = 0x9e37_79b9_7f4a_7c15;

@@ -1,6 +1,6 @@
 //! Times the proved filtering tables, and a `HashMap` at the same work.
 //!
-//!     rt staticlib table_bench
+//!     ./c-library.sh table_bench
 //!     cargo run --offline --release --manifest-path tally/bench/Cargo.toml
 //!
 //! A turn makes a table, fills it with a load of addresses in each of the sixteen databases, the same
