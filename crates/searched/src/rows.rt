@@ -36,9 +36,8 @@ impl<'a> Rows<'a> {
         requires { Sits self.now }
         ensures { result ≡ place_of (taken self.now) fid address }
     {
-        for i in 0..self.used {
-            let e = self.all[i];
-            if e.has_key(fid, address) {
+        for (i, entry) in self.all[..self.used].iter().enumerate() {
+            if entry.has_key(fid, address) {
                 return i;
             }
         }
@@ -50,8 +49,8 @@ impl<'a> Rows<'a> {
         ensures { result ≡ count_of fid (taken self.now) }
     {
         let mut n = 0;
-        for i in 0..self.used {
-            if self.all[i].fid == fid {
+        for entry in &self.all[..self.used] {
+            if entry.fid == fid {
                 n += 1;
             }
         }
@@ -64,11 +63,8 @@ impl<'a> Rows<'a> {
         ensures { result ≡ oldest_of (taken self.now) }
     {
         let mut least = u64::MAX;
-        for i in 0..self.used {
-            let heard = self.all[i].heard;
-            if heard < least {
-                least = heard;
-            }
+        for entry in &self.all[..self.used] {
+            least = least.min(entry.heard);
         }
         least
     }
