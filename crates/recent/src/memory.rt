@@ -22,8 +22,8 @@ pub(crate) fn recall(slots: &[Option<Remembered>], fid: u8, address: [u8; 6]) ->
     ensures answer { result ≡ recalled slots.now fid address }
     ensures right { (l : List Entry) → Right l slots.now → IsRight l fid address result }
 {
-    for i in 0..slots.len() {
-        if let Some(port) = said_by(slots[i], fid, address) {
+    for slot in slots {
+        if let Some(port) = said_by(*slot, fid, address) {
             return Some(port);
         }
     }
@@ -58,8 +58,7 @@ pub(crate) fn forget(slots: &mut [Option<Remembered>], change: Change)
     ensures flushed { (l k : List Entry) (f : ℕ) → k ≡ after_flush l f → Right l slots.old → change ≡ Change.Flushed f → Right k slots.new }
     ensures expired { (l k : List Entry) (limit : ℕ) → k ≡ after_expire limit l → Right l slots.old → change ≡ Change.Expired → Right k slots.new }
 {
-    for i in 0..slots.len() {
-        let slot = slots[i];
-        slots[i] = change.leaves(slot);
+    for slot in slots.iter_mut() {
+        *slot = change.leaves(*slot);
     }
 }

@@ -5,15 +5,15 @@ use Rattle.recent.specs.Remembered.{left}
 use Rattle.recent.proofs.Rights.{forgets_learned, forgets_flushed, forgets_expired}
 use Rattle.recent.proofs.memory.forget.Goals as goal
 
-pub loop-i-preserved : goal.loop-i-preserved
-loop-i-preserved c =
-    ap (set c.loop-i.slots c.loop-i.i) c.leaves.ensures ∙ map_over_more (left c.args.change) c.args.slots.now c.loop-i.slots c.loop-i.i (get_or c.loop-i.slots c.loop-i.i None) c.loop-i-test.true c.loop-i.invariant (get_or_default c.loop-i.slots c.loop-i.i None _ (omega arith))
+pub loop-slot-preserved : goal.loop-slot-preserved
+loop-slot-preserved c =
+    ap (set c.loop-slot.slots c.loop-slot.slot-index) c.leaves.ensures ∙ map_over_more (left c.args.change) c.args.slots.now c.loop-slot.slots c.loop-slot.slot-index (get_or c.loop-slot.slots c.loop-slot.slot-index None) c.loop-slot-test.true c.loop-slot.invariant (get_or_default c.loop-slot.slots c.loop-slot.slot-index None _ (omega arith))
 
 pub returns : goal.returns
 returns c =
     let xs = c.args.slots.now in
-    let n : length xs ≤ c.loop-i.i = omega arith in
-    let e = c.loop-i.invariant ∙ ap (λ l. map (left c.args.change) l ++ drop c.loop-i.i xs) (take_all c.loop-i.i xs n) ∙ ap (λ l. map (left c.args.change) xs ++ l) (drop_all c.loop-i.i xs n) ∙ append-nil _ in
+    let n : length xs ≤ c.loop-slot.slot-index = omega arith in
+    let e = c.loop-slot.invariant ∙ ap (λ l. map (left c.args.change) l ++ drop c.loop-slot.slot-index xs) (take_all c.loop-slot.slot-index xs n) ∙ ap (λ l. map (left c.args.change) xs ++ l) (drop_all c.loop-slot.slot-index xs n) ∙ append-nil _ in
     record {
       slots = e;
       learned = λ l k share f a p t h r q. forgets_learned l k xs _ _ share f a p t q e h r;
