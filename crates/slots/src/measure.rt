@@ -48,8 +48,8 @@ pub fn measure(records: &[Entry]) -> Bounds
     ensures { result ≡ measured records.now }
 {
     let mut bounds = empty_bounds();
-    for at in 0..records.len() {
-        bounds = count(records.len(), at, bounds, records[at]);
+    for (at, entry) in records.iter().enumerate() {
+        bounds = count(records.len(), at, bounds, *entry);
     }
     bounds
 }
