@@ -1,7 +1,6 @@
 // The records of a searched table: the first `used` of them hold entries, in the order in which they came.
-ghost use Rattle.std.specs.Prelude.{◌≡◌, ℕ, ◌+◌, ◌<◌, ◌≤◌, [], ◌∷◌, ◌++◌, length, filter};
+ghost use Rattle.std.specs.Prelude.{◌≡◌, ◌+◌, ◌<◌, [], ◌∷◌, ◌++◌, length, filter};
 ghost use Rattle.table.specs.Entries.{count_of};
-ghost use Rattle.table.specs.Records.{rewritten};
 ghost use Rattle.searched.specs.Records.{Sits, oldest_of, passes, place_of, taken};
 
 use table::entry::Entry;

@@ -1,5 +1,5 @@
 // Sets of traffic classes.
-ghost use Rattle.std.specs.Prelude.{◌≡◌, ℕ, true, false, set, replicate, slice_set};
+ghost use Rattle.std.specs.Prelude.{◌≡◌, ℕ, true, false, replicate, slice_set};
 ghost use Rattle.selector.specs.Answers.{Chosen};
 ghost use Rattle.selector.specs.Classes.{holds, first_held};
 ghost use Rattle.selector.specs.Strict.{downward, Highest};

@@ -2,7 +2,7 @@
 ghost use Rattle.std.specs.Prelude.{◌≡◌, ◌+◌, ◌*◌, ◌/◌, ◌%◌, ◌<◌, ◌≤◌, []};
 ghost use Rattle.table.specs.Calls.{after_learn, answered, marked};
 ghost use Rattle.table_bench.specs.Task.{performed, stride_of};
-ghost use Rattle.table_bench.specs.Work.{address_at, fid_at, filled, find_sum, heard_again, learn_sum, plus, port_at, strode, worth_of, worth_of_mark};
+ghost use Rattle.table_bench.specs.Work.{address_at, fid_at, filled, find_sum, learn_sum, plus, port_at, strode, worth_of, worth_of_mark};
 
 use crate::task::Task;
 use fault::mark::Mark;
