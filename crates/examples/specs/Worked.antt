@@ -11,7 +11,7 @@ use Rattle.fault.specs.declared.mark.Mark.TheVariants.{New, Known, Full}
 use Rattle.fault.specs.declared.refusal.Refusal.{Refusal}
 use Rattle.fault.specs.declared.refusal.Refusal.TheVariants.{ReservedVid, CfiSet, VlanNotCreated, ReservedDestination, NoEgressPort}
 use Rattle.frame.specs.Packed.{packed}
-use Rattle.fault.specs.Told.{told}
+use Rattle.fault.specs.Told.{layer_number, told}
 use Rattle.frame.specs.Reading.{Picture, parse}
 use Rattle.frame.specs.Writing.{write_answer}
 use Rattle.frame.specs.declared.parts.Tag.{Tag}
@@ -101,7 +101,7 @@ out length vid class bytes = sent (record { length = length; vid = vid; class = 
 -- what reading gives: the one number and, for a refusal, its layer and place
 abbrev pub told_place : Result Picture Refusal → List ℕ
 told_place (Ok p) = []
-told_place (Err e) = (told e).layer ∷ (told e).place ∷ []
+told_place (Err e) = layer_number (told e).layer ∷ (told e).place ∷ []
 
 -- the length that writing answers, or 0 and the refusal's number
 abbrev pub length_of : Result ℕ Refusal → List ℕ

@@ -2,19 +2,29 @@
 -- and the mark of what had been learned by then. Refusals are a closed list, and everything
 -- that a caller is told follows from the case, line by line below.
 use Rattle.std.specs.Prelude.{ℕ, cond, ◌&&◌, Some, None, Option, nat_le}
+use Rattle.fault.specs.declared.layer.Layer.{Layer}
+use Rattle.fault.specs.declared.layer.Layer.TheVariants.{Frame, Ingress, Relay, Elsewhere}
 use Rattle.fault.specs.declared.mark.Mark.{Mark}
 use Rattle.fault.specs.declared.refusal.Refusal.{Refusal}
 use Rattle.fault.specs.declared.refusal.Refusal.TheVariants.{NotStarted, PortOutOfRange, FrameMemoryTooSmall, FrameTooShort, FrameTooLong, ReservedVid, CfiSet, FrameNotAdmitted, VlanNotCreated, NotMember, PortNotLearning, PortNotForwarding, ReservedDestination, NoEgressPort, OutputMemoryTooSmall, NoFrameStands, TimeBeforeClock, TimeTooLarge, UnknownEvent, NoTransition, FidOutOfRange, AlreadyStarted, PortCountOutOfRange, ClassCountOutOfRange, ShareOutOfRange, DepthOutOfRange, TableMemoryTooSmall, VidOutOfRange, PriorityOutOfRange, MemberOutOfRange, UntaggedNotMember, AlreadyThere, TooMany, AgeingOutOfRange, TagOutOfRange, LengthOutOfRange, DoesNotFit}
 
 pub record Told : Type 0 where
   pub number : ℕ
-  pub layer : ℕ
+  pub layer : Layer
   pub place : ℕ
   pub mark : Option Mark
 
--- 1 frame, 2 ingress, 3 relay, 4 everything else
-abbrev pub layer_of : ℕ → ℕ
-layer_of n = cond (nat_le 4 n && nat_le n 7) 1 (cond (nat_le 8 n && nat_le n 10) 2 (cond (nat_le 11 n && nat_le n 14) 3 4))
+-- the numbers by which callers know the layers
+abbrev pub layer_number : Layer → ℕ
+layer_number Frame = 1
+layer_number Ingress = 2
+layer_number Relay = 3
+layer_number Elsewhere = 4
+
+-- the layer by the refusal's number
+abbrev pub layer_of : ℕ → Layer
+layer_of n =
+    cond (nat_le 4 n && nat_le n 7) Frame (cond (nat_le 8 n && nat_le n 10) Ingress (cond (nat_le 11 n && nat_le n 14) Relay Elsewhere))
 
 abbrev pub plain : ℕ → Told
 plain n = record { number = n; layer = layer_of n; place = 0; mark = None }

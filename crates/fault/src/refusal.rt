@@ -2,6 +2,7 @@
 ghost use Rattle.std.specs.Prelude.{◌≡◌};
 ghost use Rattle.fault.specs.Told.{told};
 
+use crate::layer::Layer;
 use crate::mark::Mark;
 use std::fmt;
 
@@ -92,15 +93,15 @@ impl Refusal {
         }
     }
 
-    // The layer that refused: 1 frame, 2 ingress, 3 relay, 4 everything else.
-    pub fn layer(self) -> u8
+    // The layer that refused.
+    pub fn layer(self) -> Layer
         ensures { result ≡ (told self).layer }
     {
         match self.number() {
-            4..=7 => 1,
-            8..=10 => 2,
-            11..=14 => 3,
-            _ => 4,
+            4..=7 => Layer::Frame,
+            8..=10 => Layer::Ingress,
+            11..=14 => Layer::Relay,
+            _ => Layer::Elsewhere,
         }
     }
 

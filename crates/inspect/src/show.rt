@@ -53,7 +53,7 @@ fn accepted(rt: &HostRuntime, parts: Parts<'_>) -> io::Result<()> {
 
 fn refused(rt: &HostRuntime, refusal: Refusal) -> io::Result<()> {
     let number = refusal.number();
-    let layer = refusal.layer();
+    let layer = refusal.layer().number();
     let place = refusal.place();
     println!(rt; "  refused with {number}: {refusal} (layer {layer}, place {place})")
 }
