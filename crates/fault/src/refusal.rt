@@ -4,46 +4,83 @@ ghost use Rattle.fault.specs.Told.{told};
 
 use crate::layer::Layer;
 use crate::mark::Mark;
-use std::fmt;
+use thiserror::Error;
 
-#[derive(Clone, Copy, PartialEq, Eq, Debug, Drop)]
+#[derive(Clone, Copy, PartialEq, Eq, Debug, Drop, Error)]
 pub enum Refusal {
+    #[error("the bridge has not been started")]
     NotStarted,
+    #[error("there is no such port")]
     PortOutOfRange,
+    #[error("the frame memory is too small")]
     FrameMemoryTooSmall,
+    #[error("the frame is too short")]
     FrameTooShort(usize),
+    #[error("the frame is too long")]
     FrameTooLong(usize),
+    #[error("the VID is the reserved one")]
     ReservedVid,
+    #[error("the CFI bit is set")]
     CfiSet,
+    #[error("the port admits only frames with a VID in their tag")]
     FrameNotAdmitted,
+    #[error("the VLAN is not created")]
     VlanNotCreated,
+    #[error("the port is no member of the VLAN")]
     NotMember,
+    #[error("the port is neither Learning nor Forwarding")]
     PortNotLearning,
+    #[error("the port is not Forwarding")]
     PortNotForwarding(Mark),
+    #[error("the destination is reserved")]
     ReservedDestination(Mark),
+    #[error("no port is left to send the frame to")]
     NoEgressPort(Mark),
+    #[error("the output memory is too small")]
     OutputMemoryTooSmall,
+    #[error("no frame stands at the port")]
     NoFrameStands,
+    #[error("the time lies before the clock")]
     TimeBeforeClock,
+    #[error("the time is too large")]
     TimeTooLarge,
+    #[error("there is no such port event")]
     UnknownEvent,
+    #[error("the port's state does not take this event")]
     NoTransition,
+    #[error("there is no such filtering database")]
     FidOutOfRange,
+    #[error("the bridge has been started already")]
     AlreadyStarted,
+    #[error("the number of ports is out of range")]
     PortCountOutOfRange,
+    #[error("the number of traffic classes is out of range")]
     ClassCountOutOfRange,
+    #[error("the share of a database is out of range")]
     ShareOutOfRange,
+    #[error("the depth of a queue is out of range")]
     DepthOutOfRange,
+    #[error("the table's memory is too small")]
     TableMemoryTooSmall,
+    #[error("the VID is out of range")]
     VidOutOfRange,
+    #[error("the priority is out of range")]
     PriorityOutOfRange,
+    #[error("a member is no port of the bridge")]
     MemberOutOfRange,
+    #[error("an untagged port is no member")]
     UntaggedNotMember,
+    #[error("it is there already")]
     AlreadyThere,
+    #[error("there is no room for one more")]
     TooMany,
+    #[error("the ageing time is out of range")]
     AgeingOutOfRange,
+    #[error("the tag's priority or VID is out of range")]
     TagOutOfRange,
+    #[error("the frame's length is out of range")]
     LengthOutOfRange,
+    #[error("the frame does not fit from that position")]
     DoesNotFit,
 }
 
@@ -126,53 +163,5 @@ impl Refusal {
             | Refusal::NoEgressPort(mark) => Some(mark),
             _ => None,
         }
-    }
-
-    fn words(self) -> &'static str {
-        match self {
-            Refusal::NotStarted => "the bridge has not been started",
-            Refusal::PortOutOfRange => "there is no such port",
-            Refusal::FrameMemoryTooSmall => "the frame memory is too small",
-            Refusal::FrameTooShort(_) => "the frame is too short",
-            Refusal::FrameTooLong(_) => "the frame is too long",
-            Refusal::ReservedVid => "the VID is the reserved one",
-            Refusal::CfiSet => "the CFI bit is set",
-            Refusal::FrameNotAdmitted => "the port admits only frames with a VID in their tag",
-            Refusal::VlanNotCreated => "the VLAN is not created",
-            Refusal::NotMember => "the port is no member of the VLAN",
-            Refusal::PortNotLearning => "the port is neither Learning nor Forwarding",
-            Refusal::PortNotForwarding(_) => "the port is not Forwarding",
-            Refusal::ReservedDestination(_) => "the destination is reserved",
-            Refusal::NoEgressPort(_) => "no port is left to send the frame to",
-            Refusal::OutputMemoryTooSmall => "the output memory is too small",
-            Refusal::NoFrameStands => "no frame stands at the port",
-            Refusal::TimeBeforeClock => "the time lies before the clock",
-            Refusal::TimeTooLarge => "the time is too large",
-            Refusal::UnknownEvent => "there is no such port event",
-            Refusal::NoTransition => "the port's state does not take this event",
-            Refusal::FidOutOfRange => "there is no such filtering database",
-            Refusal::AlreadyStarted => "the bridge has been started already",
-            Refusal::PortCountOutOfRange => "the number of ports is out of range",
-            Refusal::ClassCountOutOfRange => "the number of traffic classes is out of range",
-            Refusal::ShareOutOfRange => "the share of a database is out of range",
-            Refusal::DepthOutOfRange => "the depth of a queue is out of range",
-            Refusal::TableMemoryTooSmall => "the table's memory is too small",
-            Refusal::VidOutOfRange => "the VID is out of range",
-            Refusal::PriorityOutOfRange => "the priority is out of range",
-            Refusal::MemberOutOfRange => "a member is no port of the bridge",
-            Refusal::UntaggedNotMember => "an untagged port is no member",
-            Refusal::AlreadyThere => "it is there already",
-            Refusal::TooMany => "there is no room for one more",
-            Refusal::AgeingOutOfRange => "the ageing time is out of range",
-            Refusal::TagOutOfRange => "the tag's priority or VID is out of range",
-            Refusal::LengthOutOfRange => "the frame's length is out of range",
-            Refusal::DoesNotFit => "the frame does not fit from that position",
-        }
-    }
-}
-
-impl fmt::Display for Refusal {
-    fn fmt<W: fmt::Write>(&self, f: &mut fmt::Formatter<W>) -> fmt::Result {
-        f.write_str(self.words())
     }
 }
