@@ -3,7 +3,7 @@ ghost use Rattle.std.specs.Prelude.{◌≡◌, ◌+◌, ◌≤◌, length, take,
 ghost use Rattle.frame.specs.Reading.{parse, picture};
 ghost use Rattle.frame.specs.Writing.{confirm_answer, copy_after, copy_answer, write_after};
 
-use crate::parts::{Parts, Tag};
+use crate::parts::Parts;
 use crate::read::read;
 use crate::write::write;
 use fault::refusal::Refusal;
@@ -17,40 +17,11 @@ pub fn copy(frame: &[u8], memory: &mut [u8], at: usize) -> Result<usize, Refusal
     write(memory, at, &parts)
 }
 
-fn same_bytes(a: &[u8], b: &[u8]) -> bool
-    ensures { Decides result (a.now ≡ b.now) }
-{
-    a == b
-}
-
-fn same_tag(a: Option<Tag>, b: Option<Tag>) -> bool
-    ensures { Decides result (a ≡ b) }
-{
-    match (a, b) {
-        (Some(a), Some(b)) => a.priority == b.priority && a.vid == b.vid,
-        (None, None) => true,
-        (_, _) => false,
-    }
-}
-
 // Whether a frame reads as just these parts.
 fn reads_as(frame: &[u8], parts: &Parts<'_>) -> bool
     ensures { Decides result (parse frame.now ≡ Ok (picture parts.now)) }
 {
-    let Ok(found) = read(frame) else {
-        return false;
-    };
-    let same_addresses = same_bytes(&found.destination, &parts.destination)
-        && same_bytes(&found.source, &parts.source);
-    same_addresses && same_tag(found.tag, parts.tag) && same_bytes(found.body, parts.body)
-}
-
-// Whether a stretch of the memory reads as just these parts.
-fn stands(memory: &[u8], at: usize, count: usize, parts: &Parts<'_>) -> bool
-    requires { at + count ≤ length memory.now }
-    ensures { Decides result (parse (take count (drop at memory.now)) ≡ Ok (picture parts.now)) }
-{
-    reads_as(&memory[at..at + count], parts)
+    matches!(read(frame), Ok(found) if found == *parts)
 }
 
 // Writes a frame, reads it back from the memory, and answers whether it has the same parts.
@@ -59,5 +30,5 @@ pub fn write_and_confirm(memory: &mut [u8], at: usize, parts: &Parts<'_>) -> Res
     ensures after { memory.new ≡ write_after memory.old at (picture parts.now) }
 {
     let length = write(memory, at, parts)?;
-    Ok(stands(memory, at, length, parts))
+    Ok(reads_as(&memory[at..at + length], parts))
 }

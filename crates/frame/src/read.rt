@@ -15,40 +15,11 @@ const LONGEST_TAGGED: usize = 1518;
 
 const RESERVED_VID: u16 = 4095;
 
-impl Parts<'_> {
-    pub fn places(&self) -> Places
-        ensures { result ≡ places_of self.now.tag }
-    {
-        match self.tag {
-            None => Places {
-                destination: 0,
-                source: 6,
-                tag: None,
-                body: 12,
-            },
-            Some(_) => Places {
-                destination: 0,
-                source: 6,
-                tag: Some(14),
-                body: 16,
-            },
-        }
-    }
-}
-
 fn is_tagged(frame: &[u8]) -> bool
     requires { 16 ≤ length frame.now }
     ensures { result ≡ tagged frame.now }
 {
     frame[12] == 0x81 && frame[13] == 0
-}
-
-// The address that stands first in these bytes.
-fn first_address(bytes: &[u8]) -> [u8; 6]
-    requires { 6 ≤ length bytes.now }
-    ensures { result ≡ take 6 bytes.now }
-{
-    [bytes[0], bytes[1], bytes[2], bytes[3], bytes[4], bytes[5]]
 }
 
 // The tag of a frame that is long enough to have one.
@@ -91,14 +62,12 @@ pub fn read(frame: &[u8]) -> Result<Parts<'_>, Refusal>
         return Err(Refusal::FrameTooShort(length));
     }
     let tag = read_tag(frame)?;
-    let body = match tag {
-        None => 12,
-        Some(_) => 16,
-    };
+    let (destination, rest) = frame.split_first_chunk().unwrap();
+    let (source, _) = rest.split_first_chunk().unwrap();
     Ok(Parts {
-        destination: first_address(frame),
-        source: first_address(&frame[6..]),
+        destination: *destination,
+        source: *source,
         tag,
-        body: &frame[body..],
+        body: &frame[Places::of(tag).body..],
     })
 }
