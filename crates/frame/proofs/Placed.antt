@@ -1,5 +1,5 @@
 -- Bytes laid into a memory: a stretch that was lent, one stretch after another, and what lies there afterwards.
-use Rattle.std.proofs.Common.{◌≡◌, ℕ, ◌+◌, ◌≤◌, List, [], ◌++◌, length, take, drop, Ok, Err, Result, sym, refl, ap, ◌∙◌, append_assoc, append-nil, arith, length-append, length-drop, length-take}
+use Rattle.std.proofs.Common.{◌≡◌, ℕ, ◌+◌, ◌≤◌, List, [], ◌++◌, length, take, drop, Some, None, Ok, Err, Option, Result, sym, refl, ap, ◌∙◌, append_assoc, append-nil, arith, length-append, length-drop, length-take}
 use mathlib.Core.Path.{subst⁻¹}
 use borrow.Rule.Slice.PartMut.{put_mid}
 use lib.Seq.{paste}
@@ -8,7 +8,10 @@ use Rattle.std.proofs.lemmas.List.{drop_all, drop_at, drop-drop, drop-append-le,
 use Rattle.std.proofs.lemmas.Slice.{put_mid-paste}
 use Rattle.fault.specs.declared.refusal.Refusal.{Refusal}
 use Rattle.fault.specs.Asked.{changed}
-use Rattle.frame.specs.Writing.{put_at}
+use Rattle.frame.specs.Reading.{places_of}
+use Rattle.frame.specs.Writing.{put_at, tag_bytes}
+use Rattle.frame.specs.declared.parts.Places.{Places}
+use Rattle.frame.specs.declared.parts.Tag.{Tag}
 
 -- a stretch was lent, and holds zs now
 pub lent : (a k : ℕ) (xs ys zs : List ℕ) → ys ≡ zs → length zs ≡ k → put_mid a k xs ys ≡ put_at xs a zs
@@ -26,7 +29,7 @@ after_length m at s t h =
     ∙ ap (λ (n : ℕ). take at m ++ ((s ++ t) ++ drop (at + n) m)) (sym (length-append s t))
 
 -- where the pieces so far are n bytes from the front
-pub next : (m s t m1 m2 : List ℕ) (n : ℕ) → length s ≡ n → m1 ≡ put_at m 0 s → m2 ≡ put_at m1 n t → m2 ≡ put_at m 0 (s ++ t)
+next : (m s t m1 m2 : List ℕ) (n : ℕ) → length s ≡ n → m1 ≡ put_at m 0 s → m2 ≡ put_at m1 n t → m2 ≡ put_at m 0 (s ++ t)
 next m s t m1 m2 n h e1 e2 =
     let k : n ≡ 0 + length s = omega arith in
     let z : 0 ≤ length m = omega arith in
@@ -34,10 +37,29 @@ next m s t m1 m2 n h e1 e2 =
     rw (e2, e1) (subst⁻¹ (λ (i : ℕ). put_at (put_at m 0 s) i t ≡ put_at m 0 (s ++ t)) k j)
 
 -- pieces that fill the memory are all that it holds
-pub whole : (m f : List ℕ) → length f ≡ length m → put_at m 0 f ≡ f
+whole : (m f : List ℕ) → length f ≡ length m → put_at m 0 f ≡ f
 whole m f e =
     let p : drop (0 + length f) m ≡ [] = drop_all (0 + length f) m (omega arith) in
     ap (λ (x : List ℕ). f ++ x) p ∙ append-nil f
+
+-- two addresses, a tag's bytes and a body, laid one after another where they fill the memory
+filled : (m d s t b m1 m2 m3 m4 : List ℕ) (k : ℕ) → length d ≡ 6 → length s ≡ 6 → 12 + length t ≡ k → length m ≡ k + length b
+    → m1 ≡ put_at m 0 d → m2 ≡ put_at m1 6 s → m3 ≡ put_at m2 12 t → m4 ≡ put_at m3 k b → m4 ≡ d ++ (s ++ (t ++ b))
+filled m d s t b m1 m2 m3 m4 k hd hs ht hm e1 e2 e3 e4 =
+    let two = next m d s m1 m2 6 hd e1 e2 in
+    let three = next m (d ++ s) t m2 m3 12 (simp length-append (omega arith)) two e3 in
+    let four = next m ((d ++ s) ++ t) b m3 m4 k (simp length-append (omega arith)) three e4 in
+    four ∙ whole m (((d ++ s) ++ t) ++ b) (simp length-append (omega arith)) ∙ simp append_assoc
+
+-- the same where each part lies at its place
+pub parts : (m d s : List ℕ) (t : Option Tag) (b m1 m2 m3 m4 : List ℕ) (p : Places) → p ≡ places_of t → length d ≡ 6 → length s ≡ 6
+    → length m ≡ (places_of t).body + length b
+    → m1 ≡ put_at m p.destination d → m2 ≡ put_at m1 p.source s → m3 ≡ put_at m2 12 (tag_bytes t) → m4 ≡ put_at m3 p.body b
+    → m4 ≡ d ++ (s ++ (tag_bytes t ++ b))
+parts m d s None b m1 m2 m3 m4 p e hd hs hm e1 e2 e3 e4 =
+    filled m d s [] b m1 m2 m3 m4 12 hd hs refl hm (rw e at e1) (rw e at e2) e3 (rw e at e4)
+parts m d s (Some t) b m1 m2 m3 m4 p e hd hs hm e1 e2 e3 e4 =
+    filled m d s (tag_bytes (Some t)) b m1 m2 m3 m4 16 hd hs refl hm (rw e at e1) (rw e at e2) e3 (rw e at e4)
 
 -- what was laid at a place is what stands there
 pub stands : (m : List ℕ) (at : ℕ) (f : List ℕ) (n : ℕ) → at ≤ length m → length f ≡ n → take n (drop at (put_at m at f)) ≡ f

@@ -1,5 +1,6 @@
 -- What the questions of writing say about lengths.
 use Rattle.std.proofs.Common.{◌≡◌, ℕ, ◌+◌, ◌≤◌, List, Some, None, Ok, Option, Result, refl, arith}
+use Rattle.std.proofs.Math.Nat.{add-sub_cancel_left}
 use Rattle.std.proofs.lemmas.Bool.Decides.{nat_tests}
 use Rattle.fault.specs.declared.refusal.Refusal.{Refusal}
 use Rattle.fault.specs.Asked.{before, changed, unless}
@@ -47,6 +48,9 @@ pub in_a_cell : (room at n : ℕ) (p : Picture) → ◌≡◌ {A = Result ℕ Re
 in_a_cell room at n p e =
     let a = answered (before (shape_asked p) (room_asked room at (size_of p))) n (size_of p) e in
     omega (arith, in_cell room at p a.0, a.1)
+
+-- from a position on to the end of n bytes there are n bytes
+pub ruleset span = add-sub_cancel_left
 
 -- with no room at all nothing is written
 pub no_room : (p : Picture) (m f : List ℕ) → changed (write_answer 0 0 p) m f ≡ m

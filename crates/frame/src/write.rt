@@ -1,5 +1,5 @@
 // Writing a frame from its parts into memory that the caller lends.
-ghost use Rattle.std.specs.Prelude.{◌≡◌, ◌+◌, ◌<◌, ◌≤◌, true, length, Some, Ok};
+ghost use Rattle.std.specs.Prelude.{◌≡◌, ◌+◌, ◌≤◌, true, length, nat_le, Some, Ok};
 ghost use Rattle.frame.specs.Reading.{picture};
 ghost use Rattle.frame.specs.Writing.{ReadsBack, cell_after, cell_answer, frame_of, put_at, size_of, tag_bytes, tag_fits, write_after, write_answer};
 
@@ -14,6 +14,9 @@ const SHORTEST: usize = 56;
 
 const LONGEST_BODY: usize = 1502;
 
+// The tag's four bytes follow the addresses.
+const TAG: usize = 12;
+
 // A cell of the frame memory holds any frame.
 pub const CELL: usize = 1518;
 
@@ -27,28 +30,37 @@ fn put(memory: &mut [u8], at: usize, bytes: &[u8])
 }
 
 fn tag_bytes(tag: Tag) -> [u8; 4]
-    requires { (tag.priority ≤ 7) × (tag.vid ≤ 4094) }
+    requires priority { tag.priority ≤ 7 }
+    requires vid { tag.vid ≤ 4094 }
     ensures { result ≡ tag_bytes (Some tag) }
 {
     let word = u16::from(tag.priority) * 8192 + tag.vid;
-    [0x81, 0, (word / 256) as u8, (word % 256) as u8]
+    let [high, low] = word.to_be_bytes();
+    [0x81, 0, high, low]
+}
+
+// Whether so many bytes fit into the room from position `at` on.
+fn fits(room: usize, at: usize, count: usize) -> bool
+    ensures { result ≡ nat_le (at + count) room }
+{
+    count <= room && at <= room - count
 }
 
 // The length that the frame will have, or the first question that is answered no.
 fn measure(room: usize, at: usize, parts: &Parts<'_>) -> Result<usize, Refusal>
     ensures { result ≡ write_answer room at (picture parts.now) }
 {
-    if let Some(tag) = parts.tag {
-        if tag.priority > HIGHEST_PRIORITY || tag.vid > HIGHEST_VID {
-            return Err(Refusal::TagOutOfRange);
-        }
+    if let Some(tag) = parts.tag
+        && (tag.priority > HIGHEST_PRIORITY || tag.vid > HIGHEST_VID)
+    {
+        return Err(Refusal::TagOutOfRange);
     }
     let body = parts.body.len();
     if body > LONGEST_BODY || parts.places().body + body < SHORTEST {
         return Err(Refusal::LengthOutOfRange);
     }
     let length = parts.places().body + body;
-    if room < length || room - length < at {
+    if !fits(room, at, length) {
         return Err(Refusal::DoesNotFit);
     }
     Ok(length)
@@ -56,18 +68,17 @@ fn measure(room: usize, at: usize, parts: &Parts<'_>) -> Result<usize, Refusal>
 
 // Fills a stretch of just the frame's length.
 fn fill(frame: &mut [u8], parts: &Parts<'_>)
-    requires { (length frame.old ≡ size_of (picture parts.now)) × (tag_fits parts.now.tag ≡ true) }
+    requires size { length frame.old ≡ size_of (picture parts.now) }
+    requires tag { tag_fits parts.now.tag ≡ true }
     ensures { frame.new ≡ frame_of (picture parts.now) }
 {
-    put(frame, 0, &parts.destination);
-    put(frame, 6, &parts.source);
-    match parts.tag {
-        None => put(frame, 12, parts.body),
-        Some(tag) => {
-            put(frame, 12, &tag_bytes(tag));
-            put(frame, 16, parts.body);
-        }
+    let places = parts.places();
+    put(frame, places.destination, &parts.destination);
+    put(frame, places.source, &parts.source);
+    if let Some(tag) = parts.tag {
+        put(frame, TAG, &tag_bytes(tag));
     }
+    put(frame, places.body, parts.body);
 }
 
 // Lays a frame that was measured for this place, where it reads back exactly if it is readable.
@@ -90,32 +101,15 @@ pub fn write(memory: &mut [u8], at: usize, parts: &Parts<'_>) -> Result<usize, R
     Ok(length)
 }
 
-// A cell that does not lie in the memory has no room for a frame: only which question refuses it is open.
-fn refuse_cell(memory: &[u8], place: usize, parts: &Parts<'_>) -> Result<usize, Refusal>
-    requires { length memory.now < place + 1518 }
-    ensures answer { result ≡ cell_answer (length memory.now) place (picture parts.now) }
-    ensures after { memory.now ≡ cell_after memory.now place (picture parts.now) }
-{
-    measure(0, 0, parts)
-}
-
-// The cell is lent to the writer.
-fn lend_cell(memory: &mut [u8], place: usize, parts: &Parts<'_>) -> Result<usize, Refusal>
-    requires { place + 1518 ≤ length memory.old }
-    ensures answer { result ≡ cell_answer (length memory.old) place (picture parts.now) }
-    ensures after { memory.new ≡ cell_after memory.old place (picture parts.now) }
-{
-    let cell = &mut memory[place..place + CELL];
-    write(cell, 0, parts)
-}
-
 // Writes a frame into the cell that begins at `place`, and touches nothing outside it.
+#[tactic(auto, using(crate::proofs::Room::no_room))]
 pub fn write_cell(memory: &mut [u8], place: usize, parts: &Parts<'_>) -> Result<usize, Refusal>
     ensures answer { result ≡ cell_answer (length memory.old) place (picture parts.now) }
     ensures after { memory.new ≡ cell_after memory.old place (picture parts.now) }
 {
-    if memory.len() < CELL || memory.len() - CELL < place {
-        return refuse_cell(memory, place, parts);
+    if !fits(memory.len(), place, CELL) {
+        // Such a cell has no room for a frame: only which question refuses it is open.
+        return measure(0, 0, parts);
     }
-    lend_cell(memory, place, parts)
+    write(&mut memory[place..place + CELL], 0, parts)
 }
