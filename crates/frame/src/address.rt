@@ -13,6 +13,5 @@ pub fn is_group(address: [u8; 6]) -> bool
 pub fn is_reserved(address: [u8; 6]) -> bool
     ensures { result ≡ reserved address }
 {
-    let [a, b, c, d, e, last] = address;
-    a == 0x01 && b == 0x80 && c == 0xC2 && d == 0 && e == 0 && last < 0x10
+    matches!(address, [0x01, 0x80, 0xC2, 0, 0, 0..=0x0F])
 }

@@ -35,7 +35,7 @@ pub struct Places {
 
 impl Places {
     // The places in a frame with this tag, or with none.
-    pub fn of(tag: Option<Tag>) -> Places
+    pub(crate) fn of(tag: Option<Tag>) -> Places
         ensures { result ≡ places_of tag }
     {
         let (tag, body) = match tag {
