@@ -24,8 +24,8 @@ fn reads_as(frame: &[u8], parts: &Parts<'_>) -> bool
     matches!(read(frame), Ok(found) if found == *parts)
 }
 
-#[tactic(auto, using(crate::proofs::Room::span))]
 // Writes a frame, reads it back from the memory, and answers whether it has the same parts.
+#[tactic(auto, using(crate::proofs::Room::span))]
 pub fn write_and_confirm(memory: &mut [u8], at: usize, parts: &Parts<'_>) -> Result<bool, Refusal>
     ensures answer { result ≡ confirm_answer (length memory.old) at (picture parts.now) }
     ensures after { memory.new ≡ write_after memory.old at (picture parts.now) }

@@ -21,6 +21,7 @@ const TAG: usize = 12;
 pub const CELL: usize = 1518;
 
 // Lays bytes over a stretch of the memory.
+#[tactic(auto, using(crate::proofs::Placed::lent))]
 fn put(memory: &mut [u8], at: usize, bytes: &[u8])
     requires { at + length bytes.now ≤ length memory.old }
     ensures { memory.new ≡ put_at memory.old at bytes.now }
