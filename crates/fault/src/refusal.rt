@@ -1,5 +1,5 @@
 // The closed list of refusals. docs/REFUSALS.md has the question behind each.
-ghost use Rattle.std.specs.Prelude.{◌≡◌};
+ghost use Rattle.std.specs.Prelude.{◌≡◌, ◌≤◌};
 ghost use Rattle.fault.specs.Told.{told};
 
 use crate::layer::Layer;
@@ -87,7 +87,9 @@ pub enum Refusal {
 impl Refusal {
     // The number by which callers know the refusal.
     pub fn number(self) -> u8
-        ensures { result ≡ (told self).number }
+        ensures number { result ≡ (told self).number }
+        ensures least { 1 ≤ result }
+        ensures most { result ≤ 37 }
     {
         match self {
             Refusal::NotStarted => 1,

@@ -1,7 +1,7 @@
 -- How lines are counted: one count for the tagged frames, one for the untagged, one for each number by
 -- which frames are refused, and one for the lines that are malformed. A line adds one to a single count, and a
 -- count that has reached the largest number there is stays there.
-use Rattle.std.specs.Prelude.{ℕ, ◌+◌, ◌-◌, ◌^◌, min, cond, List, length, replicate, Some, None, Ok, Err, Option, Result, ◌==◌, nat_lt, slice_index, slice_set}
+use Rattle.std.specs.Prelude.{ℕ, ◌+◌, ◌-◌, ◌^◌, min, cond, List, length, replicate, Some, None, Ok, Err, Option, Result, ◌==◌, slice_index, slice_set}
 use Rattle.fault.specs.Told.{told}
 use Rattle.fault.specs.declared.refusal.Refusal.{Refusal}
 use Rattle.frame.specs.Reading.{Picture, parse}
@@ -18,7 +18,7 @@ accepted_as None = Untagged
 
 abbrev pub read_as : Result Picture Refusal → Outcome
 read_as (Ok parts) = accepted_as parts.tag
-read_as (Err refusal) = Refused (told refusal).number
+read_as (Err refusal) = Refused refusal
 
 -- the kind of a frame
 abbrev pub outcome_of : List ℕ → Outcome
@@ -42,12 +42,10 @@ more n = min (n + 1) (2 ^ 64 - 1)
 abbrev pub more_at : ℕ → List ℕ → List ℕ
 more_at n counts = slice_set counts n (more (slice_index counts n))
 
--- the counts after one more line; no refusal has a number of 38 or above
+-- the counts after one more line
 abbrev pub counted : Summary → Outcome → Summary
 counted s Tagged = record { tagged = more s.tagged; untagged = s.untagged; refused = s.refused; malformed = s.malformed }
 counted s Untagged = record { tagged = s.tagged; untagged = more s.untagged; refused = s.refused; malformed = s.malformed }
-counted s (Refused n) =
-    cond (nat_lt n 38)
-    (record { tagged = s.tagged; untagged = s.untagged; refused = more_at n s.refused; malformed = s.malformed })
-    s
+counted s (Refused refusal) =
+    record { tagged = s.tagged; untagged = s.untagged; refused = more_at (told refusal).number s.refused; malformed = s.malformed }
 counted s Malformed = record { tagged = s.tagged; untagged = s.untagged; refused = s.refused; malformed = more s.malformed }

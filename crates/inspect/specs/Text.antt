@@ -1,12 +1,13 @@
 -- How a line of text stands for the bytes of a frame. A byte is written as a pair of hexadecimal digits,
 -- side by side; spaces, '-' and ':' may stand between pairs, and '#' begins a comment. A line is read from
 -- its first character to its last, and the first thing that is wrong makes it malformed.
-use Rattle.std.specs.Prelude.{ℕ, ◌+◌, ◌-◌, ◌*◌, Bool, cond, ◌&&◌, ◌||◌, List, [], ◌∷◌, ◌++◌, Some, None, Ok, Err, vec_items, Option, Result, Vec, ◌==◌, nat_le}
-use Rattle.std.specs.declared.alloc.Global.{Global}
+use Rattle.std.specs.Prelude.{◌≡◌, ℕ, ◌+◌, ◌-◌, ◌*◌, Bool, cond, ◌&&◌, ◌||◌, List, [], ◌∷◌, ◌++◌, Some, None, Ok, Err, Option, Result, ◌==◌, nat_le}
+use Rattle.inspect.specs.declared.line.LineError.{LineError}
+use Rattle.inspect.specs.declared.line.LineError.TheVariants as bad
 use Rattle.inspect.specs.declared.line.Malformed.{Malformed}
 use Rattle.inspect.specs.declared.line.Malformed.TheVariants.{NoDigit, NoSecondDigit}
 use Rattle.inspect.specs.declared.line.Step.{Step}
-use Rattle.inspect.specs.declared.line.Step.TheVariants.{Pass, Half, Whole, Comment, Bad}
+use Rattle.inspect.specs.declared.line.Step.TheVariants.{Pass, Half, Whole, Comment}
 
 abbrev pub within : ℕ → ℕ → ℕ → Bool
 within low high c = nat_le low c && nat_le c high
@@ -30,17 +31,17 @@ pair_of high low = joined (digit_of high) (digit_of low)
 abbrev pub between : ℕ → Bool
 between c = c == 32 || (c == 9 || (c == 13 || (c == 45 || c == 58)))
 
-abbrev pub begun : ℕ → ℕ → Option ℕ → Step
-begun place c None = Bad (NoDigit place)
-begun place c (Some d) = Half c
+abbrev pub begun : ℕ → ℕ → Option ℕ → Result Step Malformed
+begun place c None = Err (NoDigit place)
+begun place c (Some d) = Ok (Half c)
 
-abbrev pub ended : ℕ → Option ℕ → Step
-ended place None = Bad (NoSecondDigit place)
-ended place (Some b) = Whole b
+abbrev pub ended : ℕ → Option ℕ → Result Step Malformed
+ended place None = Err (NoSecondDigit place)
+ended place (Some b) = Ok (Whole b)
 
 -- what a character does at its place, given the first digit that waits there for its second, if one does
-abbrev pub step_of : ℕ → Option ℕ → ℕ → Step
-step_of place None c = cond (c == 35) Comment (cond (between c) Pass (begun place c (digit_of c)))
+abbrev pub step_of : ℕ → Option ℕ → ℕ → Result Step Malformed
+step_of place None c = cond (c == 35) (Ok Comment) (cond (between c) (Ok Pass) (begun place c (digit_of c)))
 step_of place (Some high) c = ended place (pair_of high c)
 
 -- more bytes in front
@@ -54,12 +55,12 @@ end_of place None = Ok []
 end_of place (Some high) = Err (NoSecondDigit place)
 
 -- what the rest of a line gives after a step, if `on` says what it gives with or without a waiting digit
-abbrev pub follow : Step → (Option ℕ → Result (List ℕ) Malformed) → Result (List ℕ) Malformed
-follow Pass on = on None
-follow (Half c) on = on (Some c)
-follow (Whole b) on = after (b ∷ []) (on None)
-follow Comment on = Ok []
-follow (Bad e) on = Err e
+abbrev pub follow : Result Step Malformed → (Option ℕ → Result (List ℕ) Malformed) → Result (List ℕ) Malformed
+follow (Ok Pass) on = on None
+follow (Ok (Half c)) on = on (Some c)
+follow (Ok (Whole b)) on = after (b ∷ []) (on None)
+follow (Ok Comment) on = Ok []
+follow (Err e) on = Err e
 
 abbrev pub bytes_from : ℕ → Option ℕ → List ℕ → Result (List ℕ) Malformed
 bytes_from place waiting [] = end_of place waiting
@@ -69,12 +70,7 @@ bytes_from place waiting (c ∷ rest) = follow (step_of place waiting c) (λ w. 
 abbrev pub bytes_in : List ℕ → Result (List ℕ) Malformed
 bytes_in text = bytes_from 0 None text
 
--- a parsed line, with the bytes in place of the memory that holds them
-abbrev pub shown : Result (Vec ℕ Global) Malformed → Result (List ℕ) Malformed
-shown (Ok frame) = Ok (vec_items frame)
-shown (Err e) = Err e
-
--- the bytes in a frame, unless the line that they came from ended badly
-abbrev pub gathered : List ℕ → Result (Unit {0}) Malformed → Result (List ℕ) Malformed
-gathered bytes (Ok end) = Ok bytes
-gathered bytes (Err e) = Err e
+-- an error that says of a line why it stands for no bytes; one of memory says nothing of the line
+abbrev pub Explains : List ℕ → LineError → Type 0
+Explains text (bad.Malformed e) = bytes_in text ≡ Err e
+Explains text (bad.Memory e) = Unit {0}

@@ -1,36 +1,50 @@
 // A line of hexadecimal text as the bytes of a frame.
-ghost use Rattle.std.specs.Prelude.{◌≡◌, [], IfOk};
-ghost use Rattle.inspect.specs.Text.{bytes_in, digit_of, gathered, pair_of, shown, step_of};
+ghost use Rattle.std.specs.Prelude.{◌≡◌, IfErr, IfOk, alloc_error};
+ghost use Rattle.inspect.specs.Text.{Explains, bytes_in, digit_of, pair_of, step_of};
+ghost use Rattle.inspect.specs.declared.line.LineError.TheVariants as bad;
 
-use std::alloc::{AllocError, Global};
-use std::fmt;
+use std::alloc::{AllocError, AllocFailed, Global};
+use thiserror::Error;
 
 // Why a line stands for no bytes. Places count from 0.
-#[derive(Clone, Copy, Drop)]
+#[derive(Clone, Copy, PartialEq, Eq, Debug, Drop, Error)]
 pub enum Malformed {
     // A pair should begin here.
+    #[error("column {} holds no hexadecimal digit", .0.saturating_add(1))]
     NoDigit(usize),
     // A pair should end here.
+    #[error("column {} lacks the second digit of a pair", .0.saturating_add(1))]
     NoSecondDigit(usize),
 }
 
-impl fmt::Display for Malformed {
-    fn fmt<W: fmt::Write>(&self, f: &mut fmt::Formatter<W>) -> fmt::Result {
-        match self {
-            Malformed::NoDigit(place) => {
-                let column = place.saturating_add(1);
-                write!(f, "column {column} holds no hexadecimal digit")
-            }
-            Malformed::NoSecondDigit(place) => {
-                let column = place.saturating_add(1);
-                write!(f, "column {column} lacks the second digit of a pair")
-            }
-        }
+// Why a line gives no bytes.
+#[derive(Debug, Drop, Error)]
+pub enum LineError {
+    #[error(transparent)]
+    Malformed(Malformed),
+    #[error(transparent)]
+    Memory(AllocError),
+}
+
+// Written by hand, since the derived ones do not say which error they make.
+impl From<Malformed> for LineError {
+    ghost from_gives = { λ malformed e. e ≡ bad.Malformed malformed };
+
+    fn from(malformed: Malformed) -> LineError {
+        LineError::Malformed(malformed)
+    }
+}
+
+impl<T: Drop> From<AllocFailed<T>> for LineError {
+    ghost from_gives = { λ _ e. e ≡ bad.Memory alloc_error };
+
+    fn from(_: AllocFailed<T>) -> LineError {
+        LineError::Memory(AllocError)
     }
 }
 
 // What one character does.
-#[derive(Clone, Copy, Drop)]
+#[derive(Clone, Copy, PartialEq, Eq, Debug, Drop)]
 pub enum Step {
     Pass,
     // The first digit of a pair.
@@ -38,7 +52,6 @@ pub enum Step {
     // The value of a pair, at its second digit.
     Whole(u8),
     Comment,
-    Bad(Malformed),
 }
 
 // The value of a hexadecimal digit.
@@ -61,56 +74,41 @@ pub fn pair(high: u8, low: u8) -> Option<u8>
 }
 
 // What the character at a place does, where the first digit of a pair may be waiting for its second.
-pub fn classify(place: usize, waiting: Option<u8>, text: u8) -> Step
+pub fn classify(place: usize, waiting: Option<u8>, text: u8) -> Result<Step, Malformed>
     ensures { result ≡ step_of place waiting text }
 {
     if let Some(high) = waiting {
-        return match pair(high, text) {
-            Some(value) => Step::Whole(value),
-            None => Step::Bad(Malformed::NoSecondDigit(place)),
-        };
+        let value = pair(high, text).ok_or(Malformed::NoSecondDigit(place))?;
+        return Ok(Step::Whole(value));
     }
     match text {
-        b'#' => Step::Comment,
-        b' ' | b'\t' | b'\r' | b'-' | b':' => Step::Pass,
-        _ => match digit(text) {
-            Some(_) => Step::Half(text),
-            None => Step::Bad(Malformed::NoDigit(place)),
-        },
-    }
-}
-
-// Reads a line's bytes into an empty frame.
-fn gather(frame: &mut Vec<u8>, text: &[u8]) -> Result<Result<(), Malformed>, AllocError>
-    requires { frame.old.items ≡ [] }
-    ensures { IfOk result (λ end. gathered frame.new.items end ≡ bytes_in text.now) }
-{
-    let mut waiting = None;
-    for (place, character) in text.iter().enumerate() {
-        match classify(place, waiting, *character) {
-            Step::Pass => waiting = None,
-            Step::Half(high) => waiting = Some(high),
-            Step::Whole(value) => {
-                frame.push(value)?;
-                waiting = None;
-            }
-            Step::Comment => return Ok(Ok(())),
-            Step::Bad(malformed) => return Ok(Err(malformed)),
-        }
-    }
-    match waiting {
-        None => Ok(Ok(())),
-        Some(_) => Ok(Err(Malformed::NoSecondDigit(text.len()))),
+        b'#' => Ok(Step::Comment),
+        b' ' | b'\t' | b'\r' | b'-' | b':' => Ok(Step::Pass),
+        _ if digit(text).is_some() => Ok(Step::Half(text)),
+        _ => Err(Malformed::NoDigit(place)),
     }
 }
 
 // The bytes that a line stands for: none for a blank line or a comment.
-pub fn parse(heap: Global, text: &[u8]) -> Result<Result<Vec<u8>, Malformed>, AllocError>
-    ensures { IfOk result (λ line. shown line ≡ bytes_in text.now) }
+pub fn parse(heap: Global, text: &[u8]) -> Result<Vec<u8>, LineError>
+    ensures bytes { IfOk result (λ frame. bytes_in text.now ≡ Ok frame.items) }
+    ensures malformed { IfErr result (Explains text.now) }
 {
     let mut frame = Vec::new(heap);
-    match gather(&mut frame, text)? {
-        Ok(()) => Ok(Ok(frame)),
-        Err(malformed) => Ok(Err(malformed)),
+    let mut waiting = None;
+    for (place, character) in text.iter().enumerate() {
+        waiting = match classify(place, waiting, *character)? {
+            Step::Pass => None,
+            Step::Half(high) => Some(high),
+            Step::Whole(value) => {
+                frame.push(value)?;
+                None
+            }
+            Step::Comment => return Ok(frame),
+        };
+    }
+    match waiting {
+        None => Ok(frame),
+        Some(_) => Err(Malformed::NoSecondDigit(text.len()).into()),
     }
 }

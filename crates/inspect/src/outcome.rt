@@ -2,14 +2,15 @@
 ghost use Rattle.std.specs.Prelude.{◌≡◌};
 ghost use Rattle.inspect.specs.Counts.{outcome_of};
 
+use fault::refusal::Refusal;
+use frame::parts::Parts;
 use frame::read::read;
 
-#[derive(Clone, Copy, Drop)]
+#[derive(Clone, Copy, PartialEq, Eq, Debug, Drop)]
 pub enum Outcome {
     Tagged,
     Untagged,
-    // By the refusal's number.
-    Refused(u8),
+    Refused(Refusal),
     Malformed,
 }
 
@@ -18,11 +19,9 @@ impl Outcome {
         ensures { result ≡ outcome_of frame.now }
     {
         match read(frame) {
-            Ok(parts) => match parts.tag {
-                Some(_) => Outcome::Tagged,
-                None => Outcome::Untagged,
-            },
-            Err(refusal) => Outcome::Refused(refusal.number()),
+            Ok(Parts { tag: Some(_), .. }) => Outcome::Tagged,
+            Ok(_) => Outcome::Untagged,
+            Err(refusal) => Outcome::Refused(refusal),
         }
     }
 }

@@ -2,17 +2,17 @@
 ghost use Rattle.std.specs.Prelude.{◌≡◌, IfOk};
 ghost use Rattle.inspect.specs.Counts.{line_outcome, outcome_of};
 
-use crate::line::parse;
+use crate::line::{LineError, parse};
 use crate::outcome::Outcome;
 use fault::refusal::Refusal;
 use frame::address::{is_group, is_reserved};
 use frame::c_api::bridge_read_frame;
-use frame::parts::Parts;
+use frame::parts::{Parts, Tag};
 use frame::read::read;
 use std::{fmt, io};
 
 // An address as text: 01-80-C2-00-00-0E (group, reserved).
-#[derive(Clone, Copy, Drop)]
+#[derive(Clone, Copy, PartialEq, Eq, Debug, Drop)]
 struct Address([u8; 6]);
 
 impl fmt::Display for Address {
@@ -38,13 +38,11 @@ fn accepted(rt: &HostRuntime, parts: Parts<'_>) -> io::Result<()> {
     let source = Address(parts.source);
     println!(rt; "  to {destination}")?;
     println!(rt; "  from {source}")?;
-    match (parts.tag, places.tag) {
-        (Some(tag), Some(place)) => {
-            let priority = tag.priority;
-            let vid = tag.vid;
+    match parts.tag.zip(places.tag) {
+        Some((Tag { priority, vid }, place)) => {
             println!(rt; "  tag at {place}: priority {priority}, VID {vid}")?;
         }
-        _ => println!(rt; "  no tag")?,
+        None => println!(rt; "  no tag")?,
     }
     let place = places.body;
     let length = parts.body.len();
@@ -76,16 +74,13 @@ fn frame(rt: &HostRuntime, line: usize, bytes: &[u8]) -> io::Result<Outcome>
 pub fn line(rt: &HostRuntime, number: usize, text: &[u8]) -> io::Result<Option<Outcome>>
     ensures { IfOk result (λ outcome. outcome ≡ line_outcome text.now) }
 {
-    match parse(rt.alloc(), text)? {
-        Ok(bytes) => {
-            if bytes.is_empty() {
-                return Ok(None);
-            }
-            Ok(Some(frame(rt, number, bytes.as_slice())?))
-        }
-        Err(malformed) => {
+    match parse(rt.alloc(), text) {
+        Ok(bytes) if bytes.is_empty() => Ok(None),
+        Ok(bytes) => Ok(Some(frame(rt, number, bytes.as_slice())?)),
+        Err(LineError::Malformed(malformed)) => {
             println!(rt; "line {number}: malformed: {malformed}")?;
             Ok(Some(Outcome::Malformed))
         }
+        Err(LineError::Memory(error)) => Err(error.into()),
     }
 }

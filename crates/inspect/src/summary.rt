@@ -5,14 +5,15 @@ ghost use Rattle.inspect.specs.Counts.{nothing, counted};
 use crate::outcome::Outcome;
 use std::fmt;
 
-// Refusals have the numbers 1 to 37; each is counted at the index of its number.
+// Refusals have the numbers 1 to 37; each is counted at the index of its number. In an array counting needs no memory, so it
+// cannot fail, as it could with a map.
 const NUMBERS: usize = 38;
 
-#[derive(Clone, Copy, Drop)]
+#[derive(Clone, Copy, PartialEq, Eq, Debug, Drop)]
 pub struct Summary {
     pub tagged: usize,
     pub untagged: usize,
-    pub refused: [usize; 38],
+    pub refused: [usize; NUMBERS],
     pub malformed: usize,
 }
 
@@ -24,7 +25,7 @@ impl Summary {
         Summary {
             tagged: 0,
             untagged: 0,
-            refused: [0; 38],
+            refused: [0; NUMBERS],
             malformed: 0,
         }
     }
@@ -36,11 +37,9 @@ impl Summary {
         match outcome {
             Outcome::Tagged => self.tagged = self.tagged.saturating_add(1),
             Outcome::Untagged => self.untagged = self.untagged.saturating_add(1),
-            Outcome::Refused(number) => {
-                let at = usize::from(number);
-                if at < NUMBERS {
-                    self.refused[at] = self.refused[at].saturating_add(1);
-                }
+            Outcome::Refused(refusal) => {
+                let at = usize::from(refusal.number());
+                self.refused[at] = self.refused[at].saturating_add(1);
             }
             Outcome::Malformed => self.malformed = self.malformed.saturating_add(1),
         }
@@ -49,16 +48,13 @@ impl Summary {
 
 impl fmt::Display for Summary {
     fn fmt<W: fmt::Write>(&self, f: &mut fmt::Formatter<W>) -> fmt::Result {
-        let tagged = self.tagged;
-        let untagged = self.untagged;
-        let malformed = self.malformed;
-        writeln!(f, "tagged: {tagged}")?;
-        writeln!(f, "untagged: {untagged}")?;
+        writeln!(f, "tagged: {}", self.tagged)?;
+        writeln!(f, "untagged: {}", self.untagged)?;
         for (number, times) in self.refused.iter().enumerate() {
             if *times > 0 {
                 writeln!(f, "refused with {number}: {times}")?;
             }
         }
-        writeln!(f, "malformed lines: {malformed}")
+        writeln!(f, "malformed lines: {}", self.malformed)
     }
 }
