@@ -85,7 +85,7 @@ pub enum Refusal {
 }
 
 impl Refusal {
-    // The number by which callers know the refusal.
+    // The number by which callers know the refusal. No `From`: the name says which number it is.
     pub fn number(self) -> u8
         ensures number { result ≡ (told self).number }
         ensures least { 1 ≤ result }

@@ -53,6 +53,7 @@ fn read_tag(frame: &[u8]) -> Result<Option<Tag>, Refusal>
 }
 
 // The parts of a frame, or the first question that it fails.
+// The contract takes the body by what it holds (`shown`): parts are `Copy` and have a lifetime, so that no `Model` can do it.
 pub fn read(frame: &[u8]) -> Result<Parts<'_>, Refusal>
     ensures answer { shown result ≡ parse frame.now }
     ensures own_bytes { OwnBytes frame.now (shown result) }

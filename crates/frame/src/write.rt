@@ -92,6 +92,7 @@ fn lay(memory: &mut [u8], at: usize, size: usize, parts: &Parts<'_>)
 }
 
 // Writes a frame from position `at` on, and answers its length.
+// The memory comes whole and with a position: a part of it could not be one that lies outside, which is refused.
 pub fn write(memory: &mut [u8], at: usize, parts: &Parts<'_>) -> Result<usize, Refusal>
     ensures answer { result ≡ write_answer (length memory.old) at (picture parts.now) }
     ensures after { memory.new ≡ write_after memory.old at (picture parts.now) }
