@@ -18,7 +18,7 @@ pub struct Summary {
 }
 
 impl Summary {
-    // Nothing counted yet. A derived `Default` would be no shorter, as this has to promise `nothing` by name.
+    // Nothing counted yet. No derived `Default`: what one says of an array does not prove `nothing`.
     pub fn new() -> Summary
         ensures { result ≡ nothing }
     {
