@@ -1,5 +1,5 @@
 -- What an answer tells of the questions that were asked.
-use Rattle.std.proofs.Common.{◌≡◌, Some, None, Ok, Err, Option, Result, refl}
+use Rattle.std.proofs.Common.{◌≡◌, Some, None, Ok, Option, Result, refl}
 use Rattle.fault.specs.declared.refusal.Refusal.{Refusal}
 use Rattle.fault.specs.Asked.{unless}
 
@@ -7,8 +7,3 @@ use Rattle.fault.specs.Asked.{unless}
 pub answered : {A : Type 0} (o : Option Refusal) (t x : A) → ◌≡◌ {A = Result A Refusal} (Ok t) (unless o x) → (o ≡ None) × (t ≡ x)
 answered None t x e = (refl, (cc))
 answered (Some r) t x e = ((cc), (cc))
-
--- a refusal was given, so it was the first no
-pub refused : {A : Type 0} (o : Option Refusal) (r : Refusal) (x : A) → ◌≡◌ {A = Result A Refusal} (Err r) (unless o x) → o ≡ Some r
-refused None r x e = cc
-refused (Some s) r x e = cc
