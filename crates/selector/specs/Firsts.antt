@@ -1,7 +1,13 @@
 -- The first class of an order that a set holds: where it stands in the order, and when there is none.
-use Rattle.std.specs.Prelude.{◌≡◌, ℕ, zero, suc, ◌<◌, Bool, true, false, cond, List, [], ◌∷◌, length, Some, None, Option, ◌≢◌, slice_index, refl}
-use Rattle.std.proofs.Common.{sym, zero-le, suc-le-suc, arith}
-use Rattle.selector.specs.Classes.{holds, first_held}
+use Rattle.std.specs.Prelude.{◌≡◌, ℕ, ◌<◌, Bool, true, false, List, length, Some, None, Option, slice_index, refl}
+use Rattle.std.specs.List.{position_or_len}
+use Rattle.std.proofs.Common.{sym, ap, ◌∙◌, arith}
+use Rattle.std.proofs.Math.Nat.{lt_of_not-le}
+use Rattle.std.proofs.lemmas.Bool.{both_ways}
+use Rattle.std.proofs.lemmas.List.Folds.{find_at}
+use Rattle.std.proofs.lemmas.List.Sums.{fails_before_first, passes_at_first}
+use Rattle.std.proofs.lemmas.Option.{get_or_from_slice_get, none-some, slice_get-get_or, slice_get_within}
+use Rattle.selector.specs.Classes.{NoneHeld, holds, first_held}
 
 -- a class of the order that is held, while none before it is
 pub record First (order : List ℕ) (held : List Bool) (class : ℕ) : Type 0 where
@@ -11,33 +17,29 @@ pub record First (order : List ℕ) (held : List Bool) (class : ℕ) : Type 0 wh
   pub stands : holds held class ≡ true
   pub before : (j : ℕ) → j < place → holds held (slice_index order j) ≡ false
 
-no_some : {k : ℕ} → ◌≡◌ {A = Option ℕ} None (Some k) → ⊥
-no_some e = let z : ◌≡◌ {A = ℕ} 0 1 = cc in omega arith
-
-later : (x : ℕ) (order : List ℕ) (held : List Bool) (place : ℕ) → holds held x ≡ false → ((j : ℕ) → j < place → holds held (slice_index order j) ≡ false) → (j : ℕ) → j < suc place → holds held (slice_index (x ∷ order) j) ≡ false
-later x order held place h r zero l = h
-later x order held place h r (suc j) l = r j (omega arith)
-
 pub first_is : (order : List ℕ) (held : List Bool) (class : ℕ) → first_held order held ≡ Some class → First order held class
-first_is [] held class e = absurd (no_some e)
-first_is (x ∷ order) held class e = go (holds held x) refl e (first_is order held class)
-  where
-    go : (b : Bool) → holds held x ≡ b → cond b (Some x) (first_held order held) ≡ Some class → (first_held order held ≡ Some class → First order held class) → First (x ∷ order) held class
-    go true h e' rest =
-        let q : x ≡ class = cc in
-        record { place = 0; within = suc-le-suc zero-le; is = sym q; stands = rw (← q) h; before = λ j l. absurd (omega arith) }
-    go false h e' rest =
-        let r = rest e' in
-        record { place = suc r.place; within = suc-le-suc r.within; is = r.is; stands = r.stands; before = later x order held r.place h r.before }
+first_is order held class e =
+    let place = position_or_len (holds held) order in
+    let got = sym (find_at (holds held) order) ∙ e in
+    let within = slice_get_within order place class got in
+    let is = get_or_from_slice_get order place class 0 got in
+    record {
+      place = place;
+      within = within;
+      is = sym is;
+      stands = ap (holds held) (sym is) ∙ passes_at_first (holds held) order 0 within;
+      before = λ j l. fails_before_first (holds held) order j 0 l;
+    }
 
 pub first_none : (order : List ℕ) (held : List Bool) → first_held order held ≡ None → (i : ℕ) → i < length order → holds held (slice_index order i) ≡ false
-first_none [] held e = λ i l. absurd (omega arith)
-first_none (x ∷ order) held e = go (holds held x) refl e (first_none order held)
-  where
-    go : (b : Bool) → holds held x ≡ b → cond b (Some x) (first_held order held) ≡ None → (first_held order held ≡ None → (i : ℕ) → i < length order → holds held (slice_index order i) ≡ false) → (i : ℕ) → i < suc (length order) → holds held (slice_index (x ∷ order) i) ≡ false
-    go true h e' rest = absurd (no_some (sym e'))
-    go false h e' rest = later x order held (length order) h (rest e')
+first_none order held e i l =
+    let place = position_or_len (holds held) order in
+    let none = sym (find_at (holds held) order) ∙ e in
+    let past : i < place = lt_of_not-le (λ h. none-some _ (sym none ∙ slice_get-get_or order place 0 (omega arith))) in
+    fails_before_first (holds held) order i 0 past
 
-pub none_since : (o : Option ℕ) → ((class : ℕ) → o ≢ Some class) → o ≡ None
-none_since None h = refl
-none_since (Some class) h = absurd (h class refl)
+-- a choice that is held wherever there is one is none of an empty set
+pub none_chosen : (choice : Option ℕ) (held : List Bool) → ((class : ℕ) → choice ≡ Some class → (class < 8) × (holds held class ≡ true)) → NoneHeld held → choice ≡ None
+none_chosen None held h none = refl
+none_chosen (Some class) held h none =
+    let chosen = h class refl in absurd (both_ways (holds held class) (none class chosen.0) chosen.1)

@@ -40,18 +40,10 @@ impl ClassSet {
         }
     }
 
-    // The first class, in the order given, that the set holds. For the two orders that the
-    // selectors go by, the contract also says in words what that class is.
+    // The first class, in the order given, that the set holds.
     pub(crate) fn first_of(&self, order: &[u8]) -> Option<u8>
-        ensures first { result ≡ first_held order.now self.now.held }
-        ensures falling { order.now ≡ downward → Chosen result (Highest self.now.held) }
-        ensures rising { (last : ℕ) → order.now ≡ upward last → Chosen result (NextUp last self.now.held) }
+        ensures { result ≡ first_held order.now self.now.held }
     {
-        for class in order {
-            if self.contains(*class) {
-                return Some(*class);
-            }
-        }
-        None
+        order.iter().copied().find(|class| self.contains(*class))
     }
 }

@@ -5,7 +5,7 @@ ghost use Rattle.selector.specs.Strict.{highest, Highest};
 ghost use Rattle.std.proofs.lemmas.Bool.{lt-ltb, both_ways};
 ghost use Rattle.selector.specs.Orders.{highest_is, highest_none};
 ghost use Rattle.selector.specs.Classes.{holds};
-ghost use Rattle.selector.specs.Firsts.{none_since};
+ghost use Rattle.selector.specs.Firsts.{none_chosen};
 ghost use Rattle.std.proofs.Common.{rules};
 
 use crate::classes::{CLASSES, ClassSet};
@@ -29,7 +29,7 @@ impl Selector for StrictPriority {
 
     ghost idle = { λ s port held. highest_none held };
 
-    ghost silent = { λ s port held none. none_since (highest held) (λ class e. let h = highest_is held class e in both_ways (holds held class) (none class h.0) h.1.stands) };
+    ghost silent = { λ s port held. none_chosen (highest held) held (λ class e. let h = highest_is held class e in (h.0, h.1.stands)) };
 
     ghost keeps = { Prim.search rules };
 

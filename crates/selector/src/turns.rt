@@ -5,7 +5,7 @@ ghost use Rattle.selector.specs.Turns.{upward, next_turn, remembers, NextUp};
 ghost use Rattle.std.proofs.lemmas.Bool.{lt-ltb, both_ways};
 ghost use Rattle.selector.specs.Orders.{turn_is, turn_none};
 ghost use Rattle.selector.specs.Classes.{holds};
-ghost use Rattle.selector.specs.Firsts.{none_since};
+ghost use Rattle.selector.specs.Firsts.{none_chosen};
 ghost use Rattle.std.proofs.Common.{rules};
 
 use crate::classes::{CLASSES, ClassSet};
@@ -56,7 +56,7 @@ impl Selector for TakingTurns {
 
     ghost idle = { λ s port held. turn_none (slice_index s.last port) held };
 
-    ghost silent = { λ s port held none. none_since (next_turn (slice_index s.last port) held) (λ class e. let h = turn_is (slice_index s.last port) held class e in both_ways (holds held class) (none class h.0) h.1.stands) };
+    ghost silent = { λ s port held. none_chosen (next_turn (slice_index s.last port) held) held (λ class e. let h = turn_is (slice_index s.last port) held class e in (h.0, h.1.stands)) };
 
     ghost keeps = { Prim.search rules };
 
