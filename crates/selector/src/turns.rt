@@ -27,22 +27,12 @@ impl TakingTurns {
     }
 }
 
-// The classes in the order of their turns, from the one above `last` round to `last` itself. The
-// remainder first keeps the sums in range.
+// The classes in the order of their turns, from the one above `last` round to `last` itself. The sums
+// may wrap, since 256 is a multiple of 8.
 fn order_after(last: u8) -> [u8; CLASSES]
     ensures { result ≡ upward last }
 {
-    let from = last % 8;
-    [
-        (from + 1) % 8,
-        (from + 2) % 8,
-        (from + 3) % 8,
-        (from + 4) % 8,
-        (from + 5) % 8,
-        (from + 6) % 8,
-        (from + 7) % 8,
-        (from + 8) % 8,
-    ]
+    [1, 2, 3, 4, 5, 6, 7, 8].map(|steps| last.wrapping_add(steps) % 8)
 }
 
 impl Selector for TakingTurns {
