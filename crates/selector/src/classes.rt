@@ -1,9 +1,6 @@
 // Sets of traffic classes.
-ghost use Rattle.std.specs.Prelude.{◌≡◌, ℕ, true, false, replicate, slice_set};
-ghost use Rattle.selector.specs.Answers.{Chosen};
+ghost use Rattle.std.specs.Prelude.{◌≡◌, true, false, replicate, slice_set};
 ghost use Rattle.selector.specs.Classes.{holds, first_held};
-ghost use Rattle.selector.specs.Strict.{downward, Highest};
-ghost use Rattle.selector.specs.Turns.{upward, NextUp};
 
 // Traffic classes are numbered from 0.
 pub const CLASSES: usize = 8;
@@ -26,11 +23,11 @@ impl ClassSet {
     pub fn contains(&self, class: u8) -> bool
         ensures { result ≡ holds self.now.held class }
     {
-        let place = usize::from(class);
-        place < CLASSES && self.held[place]
+        self.held.get(usize::from(class)).is_some_and(|held| *held)
     }
 
     // Adds a class. A number above 7 is no class, and adds nothing.
+    #[tactic(auto, using(std::proofs::lemmas::List::set_past))]
     pub fn insert(&mut self, class: u8)
         ensures { self.new.held ≡ slice_set self.old.held class true }
     {
