@@ -1,6 +1,6 @@
 -- A selector serves the ports 0 to 15. At another port it answers the refusal that there is no such
 -- port, and stays as it was.
-use Rattle.std.specs.Prelude.{ℕ, cond, Some, None, Ok, Err, Option, Result, nat_lt}
+use Rattle.std.specs.Prelude.{ℕ, cond, Ok, Err, Option, Result, IfOk, IfSome, nat_lt}
 use Rattle.fault.specs.declared.refusal.Refusal.{Refusal}
 use Rattle.fault.specs.declared.refusal.Refusal.TheVariants.{PortOutOfRange}
 
@@ -12,12 +12,6 @@ served port x = cond (nat_lt port 16) (Ok x) (Err PortOutOfRange)
 abbrev pub kept : {X : Type 0} → ℕ → X → X → X
 kept port later before = cond (nat_lt port 16) later before
 
--- where a class was chosen, P holds of it
-abbrev pub Chosen : Option ℕ → (ℕ → Type 0) → Type 0
-Chosen None P = Unit {0}
-Chosen (Some class) P = P class
-
--- the same of an answer
+-- where a class is picked, P holds of it
 abbrev pub Picked : Result (Option ℕ) Refusal → (ℕ → Type 0) → Type 0
-Picked (Ok choice) P = Chosen choice P
-Picked (Err refusal) P = Unit {0}
+Picked answer P = IfOk answer (λ choice. IfSome choice P)

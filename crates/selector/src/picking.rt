@@ -17,12 +17,13 @@ pub fn next_class<S: Selector>(
 ) -> Result<Option<u8>, Refusal>
     ensures answer { result ≡ served port (S.Selector.choice selector.old port standing.now.held) }
     ensures later { selector.new ≡ kept port (S.Selector.after selector.old port standing.now.held) selector.old }
-    ensures below { (class : ℕ) → result ≡ Ok (Some class) → nat_lt class 8 ≡ true }
+    ensures below { (class : ℕ) → result ≡ Ok (Some class) → class < 8 }
     ensures stands { (class : ℕ) → result ≡ Ok (Some class) → holds standing.now.held class ≡ true }
     ensures idle { result ≡ Ok None → NoneHeld standing.now.held }
     ensures silent { port < 16 → NoneHeld standing.now.held → result ≡ Ok None }
     ensures keeps { result ≡ Ok None → selector.new ≡ selector.old }
-    ensures refuses { 16 ≤ port → (result ≡ Err PortOutOfRange) × (selector.new ≡ selector.old) }
+    ensures refuses { 16 ≤ port → result ≡ Err PortOutOfRange }
+    ensures refuses_unaltered { 16 ≤ port → selector.new ≡ selector.old }
 {
     selector.pick(port, standing)
 }

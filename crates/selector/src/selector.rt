@@ -1,5 +1,5 @@
 // What every selector does, whichever way it chooses.
-ghost use Rattle.std.specs.Prelude.{◌≡◌, ℕ, Bool, true, List, Some, None, Option, nat_lt};
+ghost use Rattle.std.specs.Prelude.{◌≡◌, ℕ, ◌<◌, Bool, true, List, Some, None, Option};
 ghost use Rattle.selector.specs.Answers.{served, kept};
 ghost use Rattle.selector.specs.Classes.{holds, NoneHeld};
 
@@ -24,9 +24,8 @@ pub trait Selector: Sized {
         ensures answer { result ≡ served port (choice self.old port standing.now.held) }
         ensures later { self.new ≡ kept port (after self.old port standing.now.held) self.old };
 
-    // A pick is one of the eight classes. (As a test and not as an order, so that generic code can use it
-    // without a proof of its own.)
-    ghost below: { (s : Self) (port : ℕ) (held : List Bool) (class : ℕ) → choice s port held ≡ Some class → nat_lt class 8 ≡ true };
+    // A pick is one of the eight classes.
+    ghost below: { (s : Self) (port : ℕ) (held : List Bool) (class : ℕ) → choice s port held ≡ Some class → class < 8 };
 
     // A pick holds a frame.
     ghost stands: { (s : Self) (port : ℕ) (held : List Bool) (class : ℕ) → choice s port held ≡ Some class → holds held class ≡ true };

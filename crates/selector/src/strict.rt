@@ -2,9 +2,7 @@
 ghost use Rattle.std.specs.Prelude.{◌≡◌};
 ghost use Rattle.selector.specs.Answers.{served, kept, Picked};
 ghost use Rattle.selector.specs.Strict.{highest, Highest};
-ghost use Rattle.std.proofs.lemmas.Bool.{lt-ltb, both_ways};
 ghost use Rattle.selector.specs.Orders.{highest_is, highest_none};
-ghost use Rattle.selector.specs.Classes.{holds};
 ghost use Rattle.selector.specs.Firsts.{none_chosen};
 ghost use Rattle.std.proofs.Common.{rules};
 
@@ -23,7 +21,7 @@ impl Selector for StrictPriority {
 
     ghost after = { λ s _ _. s };
 
-    ghost below = { λ s port held class e. lt-ltb class 8 (highest_is held class e).0 };
+    ghost below = { λ s port held class e. (highest_is held class e).0 };
 
     ghost stands = { λ s port held class e. (highest_is held class e).1.stands };
 

@@ -2,9 +2,7 @@
 ghost use Rattle.std.specs.Prelude.{◌≡◌, replicate, slice_index};
 ghost use Rattle.selector.specs.Answers.{served, kept, Picked};
 ghost use Rattle.selector.specs.Turns.{upward, next_turn, remembers, NextUp};
-ghost use Rattle.std.proofs.lemmas.Bool.{lt-ltb, both_ways};
 ghost use Rattle.selector.specs.Orders.{turn_is, turn_none};
-ghost use Rattle.selector.specs.Classes.{holds};
 ghost use Rattle.selector.specs.Firsts.{none_chosen};
 ghost use Rattle.std.proofs.Common.{rules};
 
@@ -40,7 +38,7 @@ impl Selector for TakingTurns {
 
     ghost after = { λ s port held. remembers s port (next_turn (slice_index s.last port) held) };
 
-    ghost below = { λ s port held class e. lt-ltb class 8 (turn_is (slice_index s.last port) held class e).0 };
+    ghost below = { λ s port held class e. (turn_is (slice_index s.last port) held class e).0 };
 
     ghost stands = { λ s port held class e. (turn_is (slice_index s.last port) held class e).1.stands };
 
