@@ -20,7 +20,7 @@ use Rattle.rules.specs.Calls.{Answer, Call, advance, advanced, event, find, flus
 use Rattle.rules.specs.Settings.{Settings}
 use Rattle.rules.specs.Setup.{ageing_asked, make_asked, port_asked, start_asked, static_asked, vlan_asked}
 use Rattle.rules.specs.State.{State, at_start, sixteen}
-use Rattle.rules.specs.declared.ports.PortSet.{PortSet}
+use Rattle.rules.specs.Ports.{Ports}
 use Rattle.rules.specs.declared.ports.PortSettings.{PortSettings}
 use Rattle.rules.specs.declared.vlans.Verdict.TheVariants.{Forward}
 use Rattle.rules.specs.declared.vlans.Vlan.{Vlan}
@@ -30,8 +30,8 @@ abbrev pub any_equal : List ℕ → ℕ → Bool
 any_equal [] p = false
 any_equal (q ∷ qs) p = cond (q == p) true (any_equal qs p)
 
-abbrev pub ports : List ℕ → PortSet
-ports ps = record { ports = map (any_equal ps) sixteen }
+abbrev pub ports : List ℕ → Ports
+ports ps = record { held = map (any_equal ps) sixteen }
 
 -- the bridge of the examples
 abbrev pub every_port : PortSettings

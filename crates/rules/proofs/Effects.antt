@@ -13,7 +13,7 @@ use Rattle.rules.specs.declared.answers.Received.{Received}
 use Rattle.rules.specs.declared.answers.Sent.{Sent}
 use Rattle.rules.specs.declared.ports.PortEvent.{PortEvent}
 use Rattle.rules.specs.declared.ports.PortEvent.TheVariants.{Enable, Disable, Choose, Drop, DelayOver}
-use Rattle.rules.specs.declared.ports.PortSet.{PortSet}
+use Rattle.rules.specs.Ports.{Ports}
 use Rattle.rules.specs.declared.ports.PortSettings.{PortSettings}
 use Rattle.rules.specs.declared.ports.PortState.{PortState}
 use Rattle.rules.specs.declared.ports.PortState.TheVariants.{Disabled, Blocking, Listening, Learning, Forwarding}
@@ -155,10 +155,10 @@ vid_of (w ∷ vs) vid v e = go (eqb w.vid vid) refl e (vid_of vs vid v)
 module _ (σ : Settings) (s t : State) (e : Same s t) (q memory : ℕ) (frame : List ℕ) (picture : Picture) (read : parse frame ≡ Ok picture) (v : Vlan) (created : vlan_of σ.vlans v.vid ≡ Some v) (priority : ℕ) (mark : Mark) where
   flood_does : Does σ s (receive q frame memory) (flood σ t q picture v priority mark (decided σ t q v picture.destination))
   flood_does =
-      let reach : PortSet = decided σ t q v picture.destination in
+      let reach : Ports = decided σ t q v picture.destination in
       let class : ℕ = class_of σ.classes priority in
-      let full : PortSet = without_room σ t class reach in
-      either (any_in reach.ports) _ _
+      let full : Ports = without_room σ t class reach in
+      either (any_in reach.held) _ _
       (laying
       (record {
         started = e.started;

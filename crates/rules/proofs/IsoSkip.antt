@@ -8,7 +8,7 @@ use Rattle.frame.specs.Address.{reserved}
 use Rattle.frame.specs.Reading.{Picture, parse}
 use Rattle.table.specs.Calls.{after_learn, answered, flushed}
 use Rattle.table.specs.Rising.{rises}
-use Rattle.rules.specs.declared.ports.PortSet.{PortSet}
+use Rattle.rules.specs.Ports.{Ports}
 use Rattle.rules.specs.declared.vlans.Vlan.{Vlan}
 use Rattle.rules.specs.Calls.{Call, Outcome, advance, asking, choosing, counted, entering, event, find, finding, flood, flush, flushing, handing, learning, memory_needed, outcome, perform, reading, receive, receiving, relay, send, sending, standing}
 use Rattle.rules.specs.Ingress.{admitted, of_member, placed}
@@ -36,9 +36,9 @@ second x y h k = ap (λ b. b && y) (sym h) ∙ k
 
 -- receive, from its end to its beginning
 
-skip_flood : (f : ℕ) (σ : Settings) (s t : State) (q : ℕ) (frame : Picture) (v : Vlan) (priority : ℕ) (mark : Mark) (set : PortSet) → Same f s t → Same f (flood σ s q frame v priority mark set).after t
+skip_flood : (f : ℕ) (σ : Settings) (s t : State) (q : ℕ) (frame : Picture) (v : Vlan) (priority : ℕ) (mark : Mark) (set : Ports) → Same f s t → Same f (flood σ s q frame v priority mark set).after t
 skip_flood f σ s t q frame v priority mark set h =
-    either f (any_in set.ports) _ _ t (record { started = h.started; clock = h.clock; states = h.states; entries = h.entries }) h
+    either f (any_in set.held) _ _ t (record { started = h.started; clock = h.clock; states = h.states; entries = h.entries }) h
 
 skip_relay : (f : ℕ) (σ : Settings) (s t : State) (q : ℕ) (frame : Picture) (v : Vlan) (priority : ℕ) (mark : Mark) → Same f s t → Same f (relay σ s q frame v priority mark).after t
 skip_relay f σ s t q frame v priority mark h =

@@ -13,7 +13,7 @@ use Rattle.table.specs.declared.entry.Entry.{Entry}
 use Rattle.table.specs.Calls.{after_learn, answered, flushed, mark_at, port_of as entry_port}
 use Rattle.table.specs.Entries.{count_of, lookup}
 use Rattle.rules.specs.declared.ports.PortEvent.{PortEvent}
-use Rattle.rules.specs.declared.ports.PortSet.{PortSet}
+use Rattle.rules.specs.Ports.{Ports}
 use Rattle.rules.specs.declared.ports.PortState.{PortState}
 use Rattle.rules.specs.declared.vlans.StaticEntry.{StaticEntry}
 use Rattle.rules.specs.declared.vlans.Verdict.{Verdict}
@@ -69,8 +69,8 @@ either : (f : ℕ) (b : Bool) (o n o' n' : Outcome) → Agree f o n → Agree f 
 either f true o n o' n' h k = h
 either f false o n o' n' h k = k
 
-abbrev set_of : (ℕ → Bool) → PortSet
-set_of h = record { ports = map h sixteen }
+abbrev set_of : (ℕ → Bool) → Ports
+set_of h = record { held = map h sixteen }
 
 abbrev through : Bool → Verdict → Bool → Bool → Option Entry → ℕ → Bool
 through g x yes' no' o p = cond g (not (is_filter x)) (cond yes' true (cond no' false (entry_lets (entry_port o) p)))
@@ -131,9 +131,9 @@ module _ (σ : Settings) (vs : List Vlan) (es : List StaticEntry) (f : ℕ) (s :
       ask_agrees s.started NotStarted _ _
       (subst (λ x. Agree f (finding s (answered s.entries f a)) (finding (beside s m k n) x)) (view_found f a s.entries m h) (finding_agrees (answered s.entries f a)))
 
-  flood_agrees : (q : ℕ) (frame : Picture) (v : Vlan) (priority : ℕ) (mark : Mark) (set : PortSet) → Agree f (flood σ s q frame v priority mark set) (flood (other σ vs es) (beside s m k n) q frame v priority mark set)
+  flood_agrees : (q : ℕ) (frame : Picture) (v : Vlan) (priority : ℕ) (mark : Mark) (set : Ports) → Agree f (flood σ s q frame v priority mark set) (flood (other σ vs es) (beside s m k n) q frame v priority mark set)
   flood_agrees q frame v priority mark set =
-      either f (any_in set.ports) _ _ _ _
+      either f (any_in set.held) _ _ _ _
       (record { answer = refl; after = record { started = refl; clock = refl; states = refl; entries = h } })
       (no_agrees (NoEgressPort mark))
 

@@ -13,7 +13,7 @@ use Rattle.rules.specs.declared.answers.Received.{Received}
 use Rattle.rules.specs.declared.answers.Sent.{Sent}
 use Rattle.rules.specs.declared.ports.PortEvent.{PortEvent}
 use Rattle.rules.specs.declared.ports.PortEvent.TheVariants.{Enable, Disable, Choose, Drop, DelayOver}
-use Rattle.rules.specs.declared.ports.PortSet.{PortSet}
+use Rattle.rules.specs.Ports.{Ports}
 use Rattle.rules.specs.declared.ports.PortState.{PortState}
 use Rattle.rules.specs.declared.ports.PortState.TheVariants.{Disabled, Blocking, Listening, Learning, Forwarding}
 use Rattle.rules.specs.declared.vlans.Vlan.{Vlan}
@@ -66,9 +66,9 @@ memory_needed σ = σ.ports * σ.classes * σ.depth * 1518
 -- RECEIVE, from its end to its beginning
 
 -- the decided ports that have room get the frame (14: there is a decided port)
-abbrev pub flood : Settings → State → ℕ → Picture → Vlan → ℕ → Mark → PortSet → Outcome
+abbrev pub flood : Settings → State → ℕ → Picture → Vlan → ℕ → Mark → Ports → Outcome
 flood σ s q frame v priority mark set =
-    cond (any_in set.ports)
+    cond (any_in set.held)
     (outcome
     (received
     (record { classified = (v.vid, priority); decided = set; no_room = without_room σ s (class_of σ.classes priority) set; mark = mark }))

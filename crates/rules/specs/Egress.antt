@@ -4,7 +4,7 @@ use Rattle.std.specs.Prelude.{ℕ, ◌+◌, ◌-◌, ◌*◌, ◌%◌, ◌<◌, 
 use Rattle.frame.specs.Reading.{Picture}
 use Rattle.frame.specs.Writing.{frame_of, put_at}
 use Rattle.frame.specs.declared.parts.Tag.{Tag}
-use Rattle.rules.specs.declared.ports.PortSet.{PortSet}
+use Rattle.rules.specs.Ports.{Ports}
 use Rattle.rules.specs.declared.vlans.Vlan.{Vlan}
 use Rattle.rules.specs.Settings.{Settings, has}
 use Rattle.rules.specs.State.{Queued, State, sixteen, with_queues}
@@ -41,21 +41,21 @@ sendable frame v priority p =
     }
 
 -- the decided ports whose queue of the class is full
-abbrev pub without_room : Settings → State → ℕ → PortSet → PortSet
-without_room σ s c set = record { ports = map (λ p. has set p && not (nat_lt (length (s.queues p c)) σ.depth)) sixteen }
+abbrev pub without_room : Settings → State → ℕ → Ports → Ports
+without_room σ s c set = record { held = map (λ p. has set p && not (nat_lt (length (s.queues p c)) σ.depth)) sixteen }
 
 -- whether the frame is queued at a port
-abbrev pub lays : PortSet → PortSet → ℕ → Bool
+abbrev pub lays : Ports → Ports → ℕ → Bool
 lays set full p = has set p && not (has full p)
 
 -- the queues and their next slots after the frame is laid where there is room
-abbrev pub laid_queues : State → PortSet → PortSet → ℕ → (ℕ → Queued) → ℕ → ℕ → List Queued
+abbrev pub laid_queues : State → Ports → Ports → ℕ → (ℕ → Queued) → ℕ → ℕ → List Queued
 laid_queues s set full c frame p d = cond (lays set full p && d == c) (s.queues p d ++ (frame p ∷ [])) (s.queues p d)
 
-abbrev pub laid_slots : Settings → State → PortSet → PortSet → ℕ → ℕ → ℕ → ℕ
+abbrev pub laid_slots : Settings → State → Ports → Ports → ℕ → ℕ → ℕ → ℕ
 laid_slots σ s set full c p d = cond (lays set full p && d == c) ((s.slots p d + 1) % σ.depth) (s.slots p d)
 
-abbrev pub laid : Settings → State → PortSet → PortSet → ℕ → (ℕ → Queued) → State
+abbrev pub laid : Settings → State → Ports → Ports → ℕ → (ℕ → Queued) → State
 laid σ s set full c frame = with_queues s (laid_queues s set full c frame) (laid_slots σ s set full c)
 
 -- where a queue's slot lies in the frame memory: cells of 1,518 bytes, by port, then class, then slot
@@ -63,7 +63,7 @@ abbrev pub cell_place : Settings → ℕ → ℕ → ℕ → ℕ
 cell_place σ p c slot = 1518 * ((p * σ.classes + c) * σ.depth + slot)
 
 -- the frame memory after the frame is laid at some ports
-abbrev pub laid_memory : Settings → State → PortSet → PortSet → ℕ → (ℕ → Queued) → List ℕ → List ℕ → List ℕ
+abbrev pub laid_memory : Settings → State → Ports → Ports → ℕ → (ℕ → Queued) → List ℕ → List ℕ → List ℕ
 laid_memory σ s set full c frame [] m = m
 laid_memory σ s set full c frame (p ∷ ps) m =
     laid_memory σ s set full c frame ps (cond (lays set full p) (put_at m (cell_place σ p c (s.slots p c)) (frame p).bytes) m)

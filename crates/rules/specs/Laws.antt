@@ -38,7 +38,7 @@ concerning σ f steps = filter (λ x. concerns σ f x.call) steps
 -- an answer without what tells of room in queues: the no-room set, and how many frames an event emptied
 abbrev pub plain : Answer → Answer
 plain (received r) =
-    received (record { classified = r.classified; decided = r.decided; no_room = record { ports = [] }; mark = r.mark })
+    received (record { classified = r.classified; decided = r.decided; no_room = record { held = [] }; mark = r.mark })
 plain (sent x b) = sent x b
 plain advanced = advanced
 plain (emptied n) = emptied 0

@@ -1,3 +1,4 @@
+pub mod Ports
 pub mod Settings
 pub mod State
 pub mod Ingress

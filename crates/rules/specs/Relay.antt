@@ -6,7 +6,7 @@ use Rattle.fault.specs.declared.mark.Mark.TheVariants.{Unlearned}
 use Rattle.frame.specs.Address.{group}
 use Rattle.table.specs.Calls.{after_learn, mark_at, port_of as entry_port}
 use Rattle.table.specs.Entries.{count_of, lookup}
-use Rattle.rules.specs.declared.ports.PortSet.{PortSet}
+use Rattle.rules.specs.Ports.{Ports}
 use Rattle.rules.specs.declared.ports.PortState.{PortState}
 use Rattle.rules.specs.declared.ports.PortState.TheVariants.{Disabled, Blocking, Listening, Learning, Forwarding}
 use Rattle.rules.specs.declared.vlans.StaticEntry.{StaticEntry}
@@ -67,8 +67,8 @@ abbrev pub decides : Settings → State → ℕ → Vlan → List ℕ → ℕ �
 decides σ s q v a p =
     nat_lt p σ.ports && not (p == q) && forwards (state_of s p) && has v.members p && let_through σ s v a p
 
-abbrev pub decided : Settings → State → ℕ → Vlan → List ℕ → PortSet
-decided σ s q v a = record { ports = map (decides σ s q v a) sixteen }
+abbrev pub decided : Settings → State → ℕ → Vlan → List ℕ → Ports
+decided σ s q v a = record { held = map (decides σ s q v a) sixteen }
 
 abbrev pub any_in : List Bool → Bool
 any_in [] = false

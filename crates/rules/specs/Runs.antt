@@ -5,7 +5,8 @@ use Rattle.std.specs.Prelude.{◌≡◌, ℕ, Bool, true, List, [], ◌∷◌, S
 use Rattle.rules.specs.Calls.{Answer, Call, advance, event, find, flush, perform, receive, send, standing, standing_classes}
 use Rattle.rules.specs.Settings.{Settings}
 use Rattle.rules.specs.State.{State, at_start}
-use Rattle.selector.specs.Classes.{NoneHeld, holds}
+use Rattle.selector.specs.Classes.{NoneHeld}
+use Rattle.selector.specs.Sets.{holds}
 
 pub record Step : Type 0 where
   pub call : Call

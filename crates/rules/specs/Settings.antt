@@ -2,7 +2,8 @@
 -- Everything here is fixed from the start of the bridge on.
 use Rattle.std.specs.Prelude.{ℕ, Bool, true, false, cond, ◌&&◌, List, [], ◌∷◌, Some, None, Option, ◌==◌, slice_index_or}
 use Rattle.std.specs.Str.{bytes_eq}
-use Rattle.rules.specs.declared.ports.PortSet.{PortSet}
+use Rattle.selector.specs.Sets.{holds}
+use Rattle.rules.specs.Ports.{Ports}
 use Rattle.rules.specs.declared.ports.PortSettings.{PortSettings}
 use Rattle.rules.specs.declared.vlans.StaticEntry.{StaticEntry}
 use Rattle.rules.specs.declared.vlans.Verdict.{Verdict}
@@ -23,8 +24,8 @@ pub record Settings : Type 0 where
   pub statics : List StaticEntry
 
 -- whether a port is in a set
-abbrev pub has : PortSet → ℕ → Bool
-has set p = slice_index_or set.ports p false
+abbrev pub has : Ports → ℕ → Bool
+has set p = holds set.held p
 
 -- a port as it is before anything is set up
 abbrev pub plain_port : PortSettings

@@ -6,7 +6,7 @@ use Rattle.fault.specs.declared.refusal.Refusal.TheVariants.{PortOutOfRange, Vla
 use Rattle.table.specs.Entries.{is_fid}
 use Rattle.rules.specs.Settings.{Settings, has, plain_port, static_of, vlan_of}
 use Rattle.rules.specs.State.{sixteen}
-use Rattle.rules.specs.declared.ports.PortSet.{PortSet}
+use Rattle.rules.specs.Ports.{Ports}
 use Rattle.rules.specs.declared.ports.PortSettings.{PortSettings}
 use Rattle.rules.specs.declared.vlans.StaticEntry.{StaticEntry}
 use Rattle.rules.specs.declared.vlans.Vlan.{Vlan}
@@ -63,11 +63,11 @@ abbrev pub with_port : Settings → ℕ → PortSettings → Settings
 with_port σ p port = set_to σ σ.ageing (set σ.port p port) σ.vlans σ.statics
 
 -- whether every port of one set is below a number, or in another set
-abbrev pub all_below : PortSet → ℕ → List ℕ → Bool
+abbrev pub all_below : Ports → ℕ → List ℕ → Bool
 all_below set n [] = true
 all_below set n (p ∷ ps) = (not (has set p) || nat_lt p n) && all_below set n ps
 
-abbrev pub all_in : PortSet → PortSet → List ℕ → Bool
+abbrev pub all_in : Ports → Ports → List ℕ → Bool
 all_in set other [] = true
 all_in set other (p ∷ ps) = (not (has set p) || has other p) && all_in set other ps
 

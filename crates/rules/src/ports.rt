@@ -1,10 +1,8 @@
 // Ports: sets of them, their settings, states and events.
+use selector::sets::NumberSet;
 
 // A set of the ports 0 to 15.
-#[derive(Clone, Copy, Drop)]
-pub struct PortSet {
-    pub ports: [bool; 16],
-}
+pub type PortSet = NumberSet<16>;
 
 // How a port places and admits what it receives.
 #[derive(Clone, Copy, Drop)]

@@ -4,5 +4,6 @@
 pub mod classes;
 pub mod picking;
 pub mod selector;
+pub mod sets;
 pub mod strict;
 pub mod turns;

@@ -2,7 +2,8 @@
 ghost use Rattle.std.specs.Prelude.{◌≡◌, ℕ, ◌<◌, ◌≤◌, true, Some, None, Ok, Err, nat_lt};
 ghost use Rattle.fault.specs.declared.refusal.Refusal.TheVariants.{PortOutOfRange};
 ghost use Rattle.selector.specs.Answers.{served, kept};
-ghost use Rattle.selector.specs.Classes.{holds, NoneHeld};
+ghost use Rattle.selector.specs.Classes.{NoneHeld};
+ghost use Rattle.selector.specs.Sets.{holds};
 
 use crate::classes::ClassSet;
 use crate::selector::Selector;

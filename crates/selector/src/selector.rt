@@ -1,7 +1,8 @@
 // What every selector does, whichever way it chooses.
 ghost use Rattle.std.specs.Prelude.{◌≡◌, ℕ, ◌<◌, Bool, true, List, Some, None, Option};
 ghost use Rattle.selector.specs.Answers.{served, kept};
-ghost use Rattle.selector.specs.Classes.{holds, NoneHeld};
+ghost use Rattle.selector.specs.Classes.{NoneHeld};
+ghost use Rattle.selector.specs.Sets.{holds};
 
 use crate::classes::ClassSet;
 use fault::refusal::Refusal;
