@@ -93,7 +93,7 @@ tagged from to word n = to ++ (from ++ (0x81 ∷ 0 ∷ (word / 256) ∷ (word % 
 
 abbrev pub got : ℕ → ℕ → List ℕ → List ℕ → Mark → Answer
 got vid priority to full mark =
-    received (record { classified = (vid, priority); decided = ports to; no_room = ports full; mark = mark })
+    received (record { classified = record { vid = vid; priority = priority }; decided = ports to; no_room = ports full; mark = mark })
 
 abbrev pub out : ℕ → ℕ → ℕ → List ℕ → Answer
 out length vid class bytes = sent (record { length = length; vid = vid; class = class }) bytes

@@ -58,7 +58,7 @@ one : {σ : Settings} {s t : State} {call : Call} {a : Answer} (p : ℕ) → Did
 one {s = s} {t = t} {call = call} {a = a} p (rested plain same) =
     omega (arith, ap (queues_one p) plain.received, sent_none p call a plain, emptied_none p call a plain, same_standing (s.queues p) (t.queues p) eight (same.queues p))
 one {σ = σ} {s = s} {t = t} p (laying {r = r} e) =
-    omega (arith, laid_one (s.queues p) (t.queues p) (lays r.decided r.no_room p) (class_of σ.classes r.classified.1) (sendable e.picture e.vlan r.classified.1 p) (class_small σ.classes r.classified.1) (e.queues p))
+    omega (arith, laid_one (s.queues p) (t.queues p) (lays r.decided r.no_room p) (class_of σ.classes r.classified.priority) (sendable e.picture e.vlan r.classified.priority p) (class_small σ.classes r.classified.priority) (e.queues p))
 one {s = s} {t = t} p (handed {p = q} {x = x} e) =
     omega (arith, taken_one (s.queues p) (t.queues p) (eqb p q) x.class e.first e.rest e.class (λ f. ap (λ i. s.queues i x.class) (eqb-true p q f) ∙ e.stood) (e.queues p), ap {B = ℕ} (λ b. cond b 1 0) (eqb_flip p q))
 one {s = s} {t = t} p (cleared {p = q} {k = k} e) =

@@ -53,13 +53,13 @@ pub record Lays (σ : Settings) (s : State) (q : ℕ) (frame : List ℕ) (r : Re
   pub picture : Picture
   pub read : parse frame ≡ Ok picture
   pub vlan : Vlan
-  pub vid : vlan.vid ≡ r.classified.0
+  pub vid : vlan.vid ≡ r.classified.vid
   pub created : vlan_of σ.vlans vlan.vid ≡ Some vlan
   pub due : (p : ℕ) → has r.decided p ≡ true → Due s q vlan p
   pub queues :
       (p c : ℕ) → t.queues p c ≡
-      cond (lays r.decided r.no_room p && eqb c (class_of σ.classes r.classified.1))
-      (s.queues p c ++ (sendable picture vlan r.classified.1 p ∷ [])) (s.queues p c)
+      cond (lays r.decided r.no_room p && eqb c (class_of σ.classes r.classified.priority))
+      (s.queues p c ++ (sendable picture vlan r.classified.priority p ∷ [])) (s.queues p c)
 
 -- an accepted send takes the oldest frame of a class
 pub record Hands (s : State) (p : ℕ) (x : Sent) (bytes : List ℕ) (t : State) : Type 0 where
@@ -198,16 +198,16 @@ member_vlan port p (Some w) v e = go (has w.members p || not port.ingress_filter
 ingress_vlan : (σ : Settings) (p : ℕ) (tag : Option Tag) (v : Vlan) → ingress σ p tag ≡ Ok v → vlan_of σ.vlans v.vid ≡ Some v
 ingress_vlan σ p tag v e = go (admitted (port_of σ p) tag) e
   where
-    go : (b : Bool) → cond b (of_member (port_of σ p) p (vlan_of σ.vlans (placed (port_of σ p) tag).0)) (Err FrameNotAdmitted) ≡ Ok v → vlan_of σ.vlans v.vid ≡ Some v
+    go : (b : Bool) → cond b (of_member (port_of σ p) p (vlan_of σ.vlans (placed (port_of σ p) tag).vid)) (Err FrameNotAdmitted) ≡ Ok v → vlan_of σ.vlans v.vid ≡ Some v
     go true f =
-        let found' = member_vlan (port_of σ p) p (vlan_of σ.vlans (placed (port_of σ p) tag).0) v f in
-        ap (vlan_of σ.vlans) (vid_of σ.vlans (placed (port_of σ p) tag).0 v found') ∙ found'
+        let found' = member_vlan (port_of σ p) p (vlan_of σ.vlans (placed (port_of σ p) tag).vid) v f in
+        ap (vlan_of σ.vlans) (vid_of σ.vlans (placed (port_of σ p) tag).vid v found') ∙ found'
     go false f = no_err f
 
 entering_does : (σ : Settings) (s : State) (q memory : ℕ) (frame : List ℕ) (picture : Picture) → parse frame ≡ Ok picture → (o : Result Vlan Refusal) → ingress σ q picture.tag ≡ o → Does σ s (receive q frame memory) (entering σ s q picture o)
 entering_does σ s q memory frame picture read (Err r) e = refuses (same s) r
 entering_does σ s q memory frame picture read (Ok v) e =
-    learning_does σ s q memory frame picture read v (ingress_vlan σ q picture.tag v e) (placed (port_of σ q) picture.tag).1
+    learning_does σ s q memory frame picture read v (ingress_vlan σ q picture.tag v e) (placed (port_of σ q) picture.tag).priority
 
 reading_does : (σ : Settings) (s : State) (q memory : ℕ) (frame : List ℕ) (o : Result Picture Refusal) → parse frame ≡ o → Does σ s (receive q frame memory) (reading σ s q o)
 reading_does σ s q memory frame (Err r) e = refuses (same s) r

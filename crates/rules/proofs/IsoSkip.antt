@@ -70,14 +70,14 @@ skip_entering f σ s q frame None i r false = same_self f s r
 skip_entering f σ s q frame (Some v) i r true = go (has v.members q || not (port_of σ q).ingress_filtering)
   where
     go : (b : Bool) → Same f (entering σ s q frame (cond b (Ok v) (Err NotMember))).after s
-    go true = skip_learning f σ s q frame v (placed (port_of σ q) frame.tag).1 (eqb-false v.fid f i) r
+    go true = skip_learning f σ s q frame v (placed (port_of σ q) frame.tag).priority (eqb-false v.fid f i) r
     go false = same_self f s r
 skip_entering f σ s q frame (Some v) i r false = same_self f s r
 
 skip_reading : (f : ℕ) (σ : Settings) (s : State) (q : ℕ) (x : Result Picture Refusal) → concerns_frame σ f q x ≡ false → rises s.entries ≡ true → Same f (reading σ s q x).after s
 skip_reading f σ s q (Err e) i r = same_self f s r
 skip_reading f σ s q (Ok frame) i r =
-    skip_entering f σ s q frame (vlan_of σ.vlans (placed (port_of σ q) frame.tag).0) i r (admitted (port_of σ q) frame.tag)
+    skip_entering f σ s q frame (vlan_of σ.vlans (placed (port_of σ q) frame.tag).vid) i r (admitted (port_of σ q) frame.tag)
 
 skip_receive : (f : ℕ) (σ : Settings) (s : State) (q : ℕ) (frame : List ℕ) (memory : ℕ) → (ltb q σ.ports && concerns_frame σ f q (parse frame)) ≡ false → rises s.entries ≡ true → Same f (receiving σ s q frame memory).after s
 skip_receive f σ s q frame memory i r =

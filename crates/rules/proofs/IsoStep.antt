@@ -187,7 +187,7 @@ module _ (σ : Settings) (vs : List Vlan) (es : List StaticEntry) (f : ℕ) (s :
   entering_agrees q frame vid (Some v) e i true = member (has v.members q || not (port_of σ q).ingress_filtering)
     where
       priority : ℕ
-      priority = (placed (port_of σ q) frame.tag).1
+      priority = (placed (port_of σ q) frame.tag).priority
 
       own : Agree f (learning σ s q frame v priority) (learning (other σ vs es) (beside s m k n) q frame v priority)
       own =
@@ -201,7 +201,7 @@ module _ (σ : Settings) (vs : List Vlan) (es : List StaticEntry) (f : ℕ) (s :
   reading_agrees : (q : ℕ) (x : Result Picture Refusal) → concerns_frame σ f q x ≡ true → Agree f (reading σ s q x) (reading (other σ vs es) (beside s m k n) q x)
   reading_agrees q (Err r) i = absurd (true≢false (sym i))
   reading_agrees q (Ok frame) i =
-      let vid = (placed (port_of σ q) frame.tag).0 in
+      let vid = (placed (port_of σ q) frame.tag).vid in
       let b = admitted (port_of σ q) frame.tag in
       subst (λ o. Agree f (entering σ s q frame (ingress σ q frame.tag)) (entering (other σ vs es) (beside s m k n) q frame (cond b (of_member (port_of σ q) q o) (Err FrameNotAdmitted)))) (same_vlan f (vlan_of σ.vlans vid) (vlan_of vs vid) (alike.vlans vid) i) (entering_agrees q frame vid (vlan_of σ.vlans vid) refl i b)
 

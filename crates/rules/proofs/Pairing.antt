@@ -106,7 +106,7 @@ plain_delivery p c now (find f b) a e = refl
 plain_delivery p c now (standing q) a e = refl
 
 -- a laid frame awaits what its receipt tells
-laid_awaits : {σ : Settings} {s t : State} {q : ℕ} {frame : List ℕ} {r : Received} (p c now : ℕ) (e : Lays σ s q frame r t) → has r.decided p ≡ true → Awaits σ p (record { at = now; port = q; frame = frame; answer = r }) (sendable e.picture e.vlan r.classified.1 p)
+laid_awaits : {σ : Settings} {s t : State} {q : ℕ} {frame : List ℕ} {r : Received} (p c now : ℕ) (e : Lays σ s q frame r t) → has r.decided p ≡ true → Awaits σ p (record { at = now; port = q; frame = frame; answer = r }) (sendable e.picture e.vlan r.classified.priority p)
 laid_awaits {q = q} p c now e goes =
     let due = e.due p goes in
     record {
@@ -130,7 +130,7 @@ step : {σ : Settings} {s t : State} {call : Call} {a : Answer} (p c now : ℕ) 
 step {σ} {s} {t} {call} {a} p c now ds rs quiet m (rested plain e) =
     nothing_new σ p c now ds rs s t m (restarts p call a) _ _ (plain_restart p call a plain.emptied) (plain_delivery p c now call a plain.sent) (plain_receipt σ p c now call a plain.received) (e.queues p c)
 step {σ} {s} {t} p c now ds rs quiet m (laying {r = r} e) =
-    lay σ p c now ds rs s t m (lays r.decided r.no_room p && eqb c (class_of σ.classes r.classified.1)) _ _ refl
+    lay σ p c now ds rs s t m (lays r.decided r.no_room p && eqb c (class_of σ.classes r.classified.priority)) _ _ refl
     (λ is. laid_awaits p c now e (and_parts _ _ (and_parts _ _ is).0).0) (e.queues p c)
 step {σ} {s} {t} p c now ds rs quiet m (handed {p = q} {x = x} e) =
     hand σ p c now ds rs s t m (eqb q p && eqb x.class c) _ e.first e.rest refl e.vid e.written e.length'

@@ -12,14 +12,14 @@ use Rattle.rules.proofs.Order.{Before}
 -- a frame that stands is the one that a receipt tells of
 pub record Awaits (σ : Settings) (p : ℕ) (r : Receipt) (x : Queued) : Type 0 where
   pub elsewhere : eqb r.port p ≡ false
-  pub vid : x.vid ≡ r.answer.classified.0
+  pub vid : x.vid ≡ r.answer.classified.vid
   pub vlan : Vlan
   pub created : vlan_of σ.vlans x.vid ≡ Some vlan
   pub member : has vlan.members p ≡ true
   pub picture : Picture
   pub read : parse r.frame ≡ Ok picture
   pub written :
-      x.bytes ≡ frame_of (record { destination = picture.destination; source = picture.source; tag = egress_tag vlan r.answer.classified.1 p; body = picture.body })
+      x.bytes ≡ frame_of (record { destination = picture.destination; source = picture.source; tag = egress_tag vlan r.answer.classified.priority p; body = picture.body })
 
 pair_of : (σ : Settings) (p : ℕ) (r : Receipt) (x : Queued) (d : Delivery) → Awaits σ p r x → r.at < d.at → d.answer.vid ≡ x.vid → d.bytes ≡ x.bytes → d.answer.length ≡ length d.bytes → Pair σ p d r
 pair_of σ p r x d a earlier vid bytes size =

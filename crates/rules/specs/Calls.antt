@@ -71,7 +71,7 @@ flood σ s q frame v priority mark set =
     cond (any_in set.held)
     (outcome
     (received
-    (record { classified = (v.vid, priority); decided = set; no_room = without_room σ s (class_of σ.classes priority) set; mark = mark }))
+    (record { classified = record { vid = v.vid; priority = priority }; decided = set; no_room = without_room σ s (class_of σ.classes priority) set; mark = mark }))
     (laid σ s set (without_room σ s (class_of σ.classes priority) set) (class_of σ.classes priority) (sendable frame v priority)))
     (refusing (NoEgressPort mark) s)
 
@@ -90,7 +90,7 @@ learning σ s q frame v priority =
 
 abbrev pub entering : Settings → State → ℕ → Picture → Result Vlan Refusal → Outcome
 entering σ s q frame (Err r) = refusing r s
-entering σ s q frame (Ok v) = learning σ s q frame v (placed (port_of σ q) frame.tag).1
+entering σ s q frame (Ok v) = learning σ s q frame v (placed (port_of σ q) frame.tag).priority
 
 abbrev pub reading : Settings → State → ℕ → Result Picture Refusal → Outcome
 reading σ s q (Err r) = refusing r s
@@ -231,10 +231,10 @@ abbrev pub laid_in : Settings → State → Received → Result Picture Refusal 
 laid_in σ s r (Err e) v m = m
 laid_in σ s r (Ok frame) None m = m
 laid_in σ s r (Ok frame) (Some v) m =
-    laid_memory σ s r.decided r.no_room (class_of σ.classes r.classified.1) (sendable frame v r.classified.1) sixteen m
+    laid_memory σ s r.decided r.no_room (class_of σ.classes r.classified.priority) (sendable frame v r.classified.priority) sixteen m
 
 abbrev pub received_in : Settings → State → List ℕ → Answer → List ℕ → List ℕ
-received_in σ s frame (received r) m = laid_in σ s r (parse frame) (vlan_of σ.vlans r.classified.0) m
+received_in σ s frame (received r) m = laid_in σ s r (parse frame) (vlan_of σ.vlans r.classified.vid) m
 received_in σ s frame (sent x b) m = m
 received_in σ s frame advanced m = m
 received_in σ s frame (emptied n) m = m

@@ -3,15 +3,16 @@ use Rattle.std.specs.Prelude.{ℕ, Bool, cond, not, ◌||◌, Some, None, Ok, Er
 use Rattle.fault.specs.declared.refusal.Refusal.{Refusal}
 use Rattle.fault.specs.declared.refusal.Refusal.TheVariants.{FrameNotAdmitted, VlanNotCreated, NotMember}
 use Rattle.frame.specs.declared.parts.Tag.{Tag}
+use Rattle.rules.specs.declared.answers.Classified.{Classified}
 use Rattle.rules.specs.declared.ports.PortSettings.{PortSettings}
 use Rattle.rules.specs.declared.vlans.Vlan.{Vlan}
 use Rattle.rules.specs.Settings.{Settings, has, port_of, vlan_of}
 
 -- the VID and the priority of a frame: its tag's, but the port's PVID where the tag names no VLAN, and
 -- the port's own for a frame without a tag
-abbrev pub placed : PortSettings → Option Tag → ℕ × ℕ
-placed port None = (port.pvid, port.priority)
-placed port (Some t) = (cond (t.vid == 0) port.pvid t.vid, t.priority)
+abbrev pub placed : PortSettings → Option Tag → Classified
+placed port None = record { vid = port.pvid; priority = port.priority }
+placed port (Some t) = record { vid = cond (t.vid == 0) port.pvid t.vid; priority = t.priority }
 
 -- whether the port takes frames like this one: those that name a VLAN, or all
 abbrev pub admitted : PortSettings → Option Tag → Bool
@@ -26,5 +27,5 @@ of_member port p (Some v) = cond (has v.members p || not port.ingress_filtering)
 -- the VLAN of an arriving frame, or the first no of questions 8, 9 and 10
 abbrev pub ingress : Settings → ℕ → Option Tag → Result Vlan Refusal
 ingress σ p tag =
-    cond (admitted (port_of σ p) tag) (of_member (port_of σ p) p (vlan_of σ.vlans (placed (port_of σ p) tag).0))
+    cond (admitted (port_of σ p) tag) (of_member (port_of σ p) p (vlan_of σ.vlans (placed (port_of σ p) tag).vid))
     (Err FrameNotAdmitted)

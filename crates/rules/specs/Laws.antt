@@ -20,7 +20,7 @@ use Rattle.rules.specs.declared.vlans.Vlan.{Vlan}
 -- a receive concerns the database of its frame's VLAN, where the frame can be read and the VLAN is created
 abbrev pub concerns_frame : Settings → ℕ → ℕ → Result Picture Refusal → Bool
 concerns_frame σ f q (Err r) = false
-concerns_frame σ f q (Ok frame) = is_of f (vlan_of σ.vlans (placed (port_of σ q) frame.tag).0)
+concerns_frame σ f q (Ok frame) = is_of f (vlan_of σ.vlans (placed (port_of σ q) frame.tag).vid)
 
 -- whether a call concerns a database: each advance and port event, its own flushes, finds and receives
 abbrev pub concerns : Settings → ℕ → Call → Bool
@@ -119,7 +119,7 @@ pub record Delivery : Type 0 where
 abbrev pub receipt_of : Settings → ℕ → ℕ → ℕ → ℕ → List ℕ → Option Received → List Receipt
 receipt_of σ p c at q frame None = []
 receipt_of σ p c at q frame (Some r) =
-    cond (lays r.decided r.no_room p && c == class_of σ.classes r.classified.1)
+    cond (lays r.decided r.no_room p && c == class_of σ.classes r.classified.priority)
     (record { at = at; port = q; frame = frame; answer = r } ∷ []) []
 
 -- an accepted send at the port hands a frame of the class out
@@ -185,7 +185,7 @@ pub record Pair (σ : Settings) (p : ℕ) (d : Delivery) (r : Receipt) : Type 0 
   pub earlier : r.at < d.at
   pub elsewhere : nat_eq r.port p ≡ false
   -- one VID, of a VLAN that the port is a member of
-  pub vid : d.answer.vid ≡ r.answer.classified.0
+  pub vid : d.answer.vid ≡ r.answer.classified.vid
   pub vlan : Vlan
   pub created : vlan_of σ.vlans d.answer.vid ≡ Some vlan
   pub member : has vlan.members p ≡ true
@@ -193,7 +193,7 @@ pub record Pair (σ : Settings) (p : ℕ) (d : Delivery) (r : Receipt) : Type 0 
   pub picture : Picture
   pub read : parse r.frame ≡ Ok picture
   pub written :
-      d.bytes ≡ frame_of (record { destination = picture.destination; source = picture.source; tag = egress_tag vlan r.answer.classified.1 p; body = picture.body })
+      d.bytes ≡ frame_of (record { destination = picture.destination; source = picture.source; tag = egress_tag vlan r.answer.classified.priority p; body = picture.body })
   pub length' : d.answer.length ≡ length d.bytes
 
 -- the first delivery pairs with the first receipt, the second with the second, and so on
