@@ -1,4 +1,5 @@
-// The worked examples, proved of the definitions that the contracts cite.
+// The worked examples, proved of the definitions that the contracts cite. Private functions state them
+// first, and are proved by answers: no tactic computes the whole table.
 #![tactic(auto)]
 
 ghost use Rattle.std.specs.Prelude.{◌≡◌, true, length};

@@ -1,5 +1,8 @@
 // The laws over whole runs. Each public function carries one; how it is proved stands in proofs/, and
 // there is nothing to compute but the answer that it holds.
+//
+// A private function states each law first, and is proved by an answer: no tactic finds Conservation
+// and Pairing, even where it is handed their proofs.
 ghost use Rattle.std.specs.Prelude.{◌≡◌, true};
 ghost use Rattle.rules.specs.Egress.{ClassBelow};
 ghost use Rattle.rules.specs.Laws.{Conservation, Draining, Isolation, Pairing};
