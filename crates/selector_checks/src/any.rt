@@ -21,16 +21,16 @@ fn picks_what_stands<S: Selector>(rt: &impl Abort, selector: &mut S) -> Result<(
 }
 
 // Refusal 2 at every port above 15, whatever stands there.
-fn refuses_other_ports<S: Selector>(rt: &impl Abort, selector: &mut S) -> Result<(), Fail> {
+fn refuses_other_ports<S: Selector>(rt: &impl Abort, selector: &mut S) {
     for port in 16..=255u8 {
         for bits in [0, 1, 0b1010_0000, ALL] {
-            match next_class(selector, port, &set_of(bits)) {
-                Err(refusal) => assert_eq!(rt; refusal.number(), 2),
-                Ok(_) => return Err(Fail::new("a port above 15 was served")),
-            }
+            let refusal = next_class(selector, port, &set_of(bits)).expect_err(
+                rt,
+                "a port above 15 was served",
+            );
+            assert_eq!(rt; refusal.number(), 2);
         }
     }
-    Ok(())
 }
 
 #[test]
@@ -46,7 +46,7 @@ fn taking_turns_picks_what_stands(rt: HostRuntime) -> Result<(), Fail> {
 #[test]
 fn strict_priority_refuses_other_ports(rt: HostRuntime) -> Result<(), Fail> {
     let mut strict = StrictPriority;
-    refuses_other_ports(&rt, &mut strict)?;
+    refuses_other_ports(&rt, &mut strict);
     picks(&rt, &mut strict, 15, ALL, Some(7))
 }
 
@@ -57,7 +57,7 @@ fn taking_turns_refuses_other_ports(rt: HostRuntime) -> Result<(), Fail> {
     for port in 0..16u8 {
         picks(&rt, &mut turns, port, only(port / 2), Some(port / 2))?;
     }
-    refuses_other_ports(&rt, &mut turns)?;
+    refuses_other_ports(&rt, &mut turns);
     for port in 0..16u8 {
         picks(&rt, &mut turns, port, 0, None)?;
     }

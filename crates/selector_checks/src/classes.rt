@@ -1,5 +1,6 @@
 use crate::sets::{has, set_of};
 use selector::classes::ClassSet;
+use selector::sets::NumberSet;
 
 #[test]
 fn the_empty_set_holds_nothing(rt: HostRuntime) {
@@ -34,4 +35,15 @@ fn a_number_above_seven_adds_nothing(rt: HostRuntime) {
         assert!(rt; !set.contains(8));
         assert!(rt; !set.contains(255));
     }
+}
+
+// The same set of another size.
+#[test]
+fn a_set_of_sixteen_holds_fifteen_and_no_sixteen(rt: HostRuntime) {
+    let mut set = NumberSet::<16>::empty();
+    set.insert(15);
+    set.insert(16);
+    assert!(rt; set.contains(15));
+    assert!(rt; !set.contains(14));
+    assert!(rt; !set.contains(16));
 }

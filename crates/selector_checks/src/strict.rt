@@ -2,15 +2,9 @@ use crate::sets::{ALL, has, picks};
 use selector::strict::StrictPriority;
 use std::test::Fail;
 
-// Goes upward and keeps the last class seen.
+// The greatest of the classes that hold a frame.
 fn highest(bits: u16) -> Option<u8> {
-    let mut best = None;
-    for class in 0..8u8 {
-        if has(bits, class) {
-            best = Some(class);
-        }
-    }
-    best
+    (0..8u8).filter(|class| has(bits, *class)).max()
 }
 
 #[test]

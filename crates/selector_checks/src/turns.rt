@@ -10,15 +10,9 @@ fn waits(last: u8, class: u8) -> u8 {
 
 // The class of the set that waits least.
 fn nearest(bits: u16, last: u8) -> Option<u8> {
-    let mut best = None;
-    let mut least = 8;
-    for class in 0..8u8 {
-        if has(bits, class) && waits(last, class) < least {
-            least = waits(last, class);
-            best = Some(class);
-        }
-    }
-    best
+    (0..8u8)
+        .filter(|class| has(bits, *class))
+        .min_by_key(|class| waits(last, *class))
 }
 
 // Every set after every class. What the selector remembers then shows in a pick of all classes.
@@ -65,14 +59,11 @@ fn eight_picks_serve_every_class(rt: HostRuntime) -> Result<(), Fail> {
     Ok(())
 }
 
-fn times_picked(turns: &mut TakingTurns, class: u8, picks: u8) -> Result<u8, Fail> {
-    let mut times = 0u8;
-    for _ in 0..picks {
-        if turns.pick(4, &set_of(ALL))? == Some(class) {
-            times = times.wrapping_add(1);
-        }
-    }
-    Ok(times)
+// How many of so many picks of all classes take this one.
+fn times_picked(turns: &mut TakingTurns, class: u8, picks: u8) -> usize {
+    (0..picks)
+        .filter(|_| turns.pick(4, &set_of(ALL)) == Ok(Some(class)))
+        .count()
 }
 
 // Wherever they begin, eight picks serve each class once, and eighty serve it ten times.
@@ -82,8 +73,8 @@ fn every_class_is_served_alike(rt: HostRuntime) -> Result<(), Fail> {
         for class in 0..8u8 {
             let mut turns = TakingTurns::new();
             picks(&rt, &mut turns, 4, only(first), Some(first))?;
-            assert_eq!(rt; times_picked(&mut turns, class, 8)?, 1);
-            assert_eq!(rt; times_picked(&mut turns, class, 80)?, 10);
+            assert_eq!(rt; times_picked(&mut turns, class, 8), 1);
+            assert_eq!(rt; times_picked(&mut turns, class, 80), 10);
         }
     }
     Ok(())
