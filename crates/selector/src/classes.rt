@@ -4,7 +4,8 @@ ghost use Rattle.selector.specs.Classes.{first_held};
 
 use crate::sets::NumberSet;
 
-// Traffic classes are numbered from 0.
+// Traffic classes are numbered from 0. A class is a plain u8, of which calls take any: a type of its
+// own would ask more of callers.
 pub const CLASSES: usize = 8;
 
 // A set of the eight traffic classes, 0 to 7.

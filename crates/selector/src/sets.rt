@@ -21,7 +21,8 @@ impl<const N: usize> NumberSet<N> {
         self.held.get(usize::from(number)).is_some_and(|held| *held)
     }
 
-    // Adds a number. One of N or more adds nothing.
+    // Adds a number. One of N or more adds nothing. The write is by index, since a proof knows no element
+    // after one through `get_mut`.
     #[tactic(auto, using(std::proofs::lemmas::List::set_past))]
     pub fn insert(&mut self, number: u8)
         ensures { self.new.held ≡ slice_set self.old.held number true }
