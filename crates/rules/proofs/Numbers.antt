@@ -1,64 +1,39 @@
 -- Flags that a test of each number gives, and how many frames stand in all classes when one class gains or loses a frame.
-use Rattle.std.proofs.Common.{◌≡◌, ℕ, zero, suc, ◌+◌, ◌-◌, ◌<◌, Bool, true, false, cond, ◌&&◌, eqb, ltb, List, [], ◌∷◌, map, length, get_or, sym, refl, ap, ◌∙◌, le_of_suc-le-suc, not-suc-le-zero, add-zero, add-suc, suc-add, zero-add, arith}
-use Rattle.std.proofs.lemmas.Bool.{and_parts, false≢true, ltb-true}
+use Rattle.std.proofs.Common.{◌≡◌, ℕ, zero, suc, ◌+◌, ◌-◌, ◌<◌, Bool, true, false, cond, eqb, ltb, List, [], ◌∷◌, map, length, get_or, sym, refl, ap, ◌∙◌, zero-add, arith}
+use Rattle.std.specs.List.{list_all, range_with_len}
+use Rattle.std.proofs.Math.Nat.{lt_of_not-le}
+use Rattle.std.proofs.lemmas.Bool.{false≢true, ltb-true}
+use Rattle.std.proofs.lemmas.List.{get_or_past}
+use Rattle.std.proofs.lemmas.List.FromFn.{get_or-map-range_with_len, length-map-range_with_len}
 use Rattle.std.proofs.lemmas.Bool.Decides.{nat_tests}
 use Rattle.rules.specs.Egress.{class_of, class_table}
-use Rattle.rules.proofs.Classes.{all_rows, row_at}
+use Rattle.rules.proofs.Classes.{passes_at}
 use Rattle.rules.specs.State.{Queued, eight, sixteen, standing_in}
 
 pub eqb_flip : (a b : ℕ) → eqb a b ≡ eqb b a
 eqb_flip a b = grind (arith, nat_tests)
 
--- n numbers from k on
-abbrev numbers : ℕ → ℕ → List ℕ
-numbers k zero = []
-numbers k (suc n) = k ∷ numbers (suc k) n
-
-at : (f : ℕ → Bool) (k n i : ℕ) → i < n → get_or (map f (numbers k n)) i false ≡ f (k + i)
-at f k zero i h = absurd (not-suc-le-zero h)
-at f k (suc n) zero h = sym (ap f (add-zero k))
-at f k (suc n) (suc i) h = at f (suc k) n i (le_of_suc-le-suc h) ∙ ap f (suc-add k i ∙ sym (add-suc k i))
-
-within : (f : ℕ → Bool) (k n i : ℕ) → get_or (map f (numbers k n)) i false ≡ true → i < n
-within f k zero i e = absurd (false≢true e)
-within f k (suc n) zero e = omega arith
-within f k (suc n) (suc i) e = omega (arith, within f (suc k) n i e)
-
 -- the flag at a place is the test of that number
-pub flag : (f : ℕ → Bool) (n i : ℕ) → i < n → get_or (map f (numbers 0 n)) i false ≡ f i
-flag f n i h = at f 0 n i h ∙ ap f (zero-add i)
+pub flag : (f : ℕ → Bool) (n i : ℕ) → i < n → get_or (map f (range_with_len 0 n)) i false ≡ f i
+flag f n i h = get_or-map-range_with_len f 0 n i i false h (zero-add i)
 
 -- and past the end no flag is up
-pub flagged : (f : ℕ → Bool) (n i : ℕ) → get_or (map f (numbers 0 n)) i false ≡ true → (i < n) × (f i ≡ true)
+pub flagged : (f : ℕ → Bool) (n i : ℕ) → get_or (map f (range_with_len 0 n)) i false ≡ true → (i < n) × (f i ≡ true)
 flagged f n i e =
-    let h = within f 0 n i e in
+    let flags = map f (range_with_len 0 n) in
+    let h : i < n = lt_of_not-le (λ past. false≢true (sym (get_or_past flags i false (omega (arith, length-map-range_with_len f 0 n))) ∙ e)) in
     (h, sym (flag f n i h) ∙ e)
 
 pub sixteen_has : (f : ℕ → Bool) (p : ℕ) → get_or (map f sixteen) p false ≡ true → f p ≡ true
 sixteen_has f p e = (flagged f 16 p e).1
 
 -- every class that the table names is one of the eight
-all_small : List ℕ → Bool
-all_small [] = true
-all_small (c ∷ cs) = ltb c 8 && all_small cs
-
-small_at : (cs : List ℕ) (i : ℕ) → all_small cs ≡ true → get_or cs i 0 < 8
-unfolding all_small
-small_at [] i s = omega arith
-small_at (c ∷ cs) zero s = ltb-true c 8 (and_parts _ _ s).0
-small_at (c ∷ cs) (suc i) s = small_at cs i (and_parts _ _ s).1
-
-table_small : all_rows all_small class_table ≡ true
-unfolding all_rows all_small
-table_small = refl
-
-none_small : all_small [] ≡ true
-unfolding all_small
-none_small = refl
-
 pub class_small : (classes priority : ℕ) → class_of classes priority < 8
 unfolding class_of
-class_small classes priority = small_at (get_or class_table priority []) (classes - 1) (row_at all_small class_table priority none_small table_small)
+class_small classes priority =
+    let small : ℕ → Bool = λ c. ltb c 8 in
+    let row = get_or class_table priority [] in
+    ltb-true (get_or row (classes - 1) 0) 8 (passes_at small row (classes - 1) 0 refl (passes_at (list_all small) class_table priority [] refl refl))
 
 -- how often a class is among some classes
 abbrev times : ℕ → List ℕ → ℕ
