@@ -1,5 +1,5 @@
-// The worked examples, proved of the definitions that the contracts cite. Private functions state them
-// first, and are proved by answers: no tactic computes the whole table.
+// The worked examples, proved of the definitions that the contracts cite. A private function states the
+// table first, and is proved by an answer, since no tactic computes all of it. The premise is stated alike.
 #![tactic(auto)]
 
 ghost use Rattle.std.specs.Prelude.{◌≡◌, true, length};
