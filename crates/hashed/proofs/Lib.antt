@@ -2,3 +2,4 @@ pub mod Held
 pub mod Row
 pub mod Clear
 pub mod Cut
+pub mod Calls

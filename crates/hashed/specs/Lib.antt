@@ -1,3 +1,3 @@
-pub mod Checks
 pub mod Stretch
 pub mod Layout
+pub mod Sets

@@ -1,200 +1,160 @@
 // The table: a stretch of records for each filtering database. A call for one database looks at no
 // record of another.
-ghost use Rattle.std.specs.Prelude.{◌≡◌, ◌+◌, ◌*◌, ◌/◌, ◌<◌, ◌≤◌, min, true, List, [], length, Ok, nat_lt};
-ghost use Rattle.table.specs.declared.entry.Entry.{Entry};
-ghost use Rattle.table.specs.Entries.{is_fid, lookup};
-ghost use Rattle.table.specs.Calls.{after_flush, after_learn, flushed, marked, port_of};
-ghost use Rattle.slots.specs.Measure.{measured};
-ghost use Rattle.hashed.specs.Layout.{Laid, Sound, SweptTo, set_of, start_of, stretch_of};
+ghost use Rattle.std.specs.Prelude.{◌≡◌, ◌+◌, ◌*◌, ◌<◌, ◌≤◌, filter, length};
+ghost use Rattle.std.proofs.Props.{props};
+ghost use Rattle.table.specs.Records.{Orderly, held_of};
+ghost use Rattle.hashed.specs.Layout.{Laid, spared, start_of};
 
-use crate::checked::Checked;
 use crate::stretch::{learn, port_of};
 use fault::mark::Mark;
 use fault::refusal::Refusal;
-use slots::measure::{Bounds, empty_bounds, measure};
+use slots::measure::Bounds;
 use slots::sweep::{clear, sweep};
-use table::entry::{Entry, is_fid};
+use std::mem;
+use std::ops::Range;
+use table::checked::Checked;
+use table::entry::{Entry, Key};
+use table::fid::Fid;
 use table::table::Table;
 
 // Twice as many records as entries for each filtering database, and what is known of them.
+// The records stay one slice beside the bounds: sixteen slices of it would have to be cut and named one
+// by one, since a closure that cuts the next from what is left says nothing of what it gave.
 #[derive(Drop)]
 pub struct Hashed<'a> {
     records: &'a mut [Entry],
     bounds: [Bounds; 16],
     share: usize,
-}
-
-// The stretch of a filtering database, counted from 0.
-fn row_of(fid: u8) -> usize
-    requires { is_fid fid ≡ true }
-    ensures value { result + 1 ≡ fid }
-    ensures below { result < 16 }
-{
-    usize::from(fid - 1)
-}
-
-// The first record of a stretch.
-fn start_of(share: usize, row: usize) -> usize
-    requires { (share ≤ 256) × (row < 16) }
-    ensures value { result ≡ start_of share row }
-    ensures fits { result + 2 * share ≤ 32 * share }
-{
-    row * (2 * share)
-}
-
-// Whether no entry was heard at the limit or before it.
-fn none_due(bounds: Bounds, limit: u64) -> bool
-    ensures { result ≡ nat_lt limit bounds.oldest }
-{
-    limit < bounds.oldest
-}
-
-// The share that was asked for, or what so many records allow.
-fn fitting_share(checked: Checked, records: usize) -> usize
-    ensures value { result ≡ min checked.share (records / 32) }
-    ensures small { result ≤ 256 }
-{
-    usize::from(checked.share).min(records / 32)
+    ghost small: { share ≤ 256 },
+    ghost long: { length records.now ≡ 32 * share },
+    ghost laid: { Laid share records.now bounds } by { Prim.hlevel props },
+    ghost orderly: { Orderly share (held_of records.now) } by { Prim.hlevel props },
 }
 
 impl<'a> Hashed<'a> {
+    ghost use Rattle.std.specs.Prelude.{min, ◌/◌, [], Ok};
+    ghost use Rattle.table.specs.Entries.{lookup};
+    ghost use Rattle.table.specs.Calls.{after_flush, after_learn, flushed, marked, port_of};
+    ghost use Rattle.hashed.specs.Sets.{set_of};
+
     // An empty table in 32 records for each entry of the share. Records beyond these are left alone.
     // Where this is other memory than was asked about, and less, the share is what the memory allows.
-    pub fn new(checked: Checked, records: &'a mut [Entry]) -> Hashed<'a>
+    pub fn new(checked: Checked<32>, records: &'a mut [Entry]) -> Hashed<'a>
         ensures empty { set_of result ≡ [] }
         ensures share { result.share ≡ min checked.share (length records.old / 32) }
-        ensures sound { Sound result }
     {
-        let share = fitting_share(checked, records.len());
-        Hashed::emptied(&mut records[0..32 * share], share)
-    }
-
-    fn emptied(records: &'a mut [Entry], share: usize) -> Hashed<'a>
-        requires { (share ≤ 256) × (length records.old ≡ 32 * share) }
-        ensures empty { set_of result ≡ [] }
-        ensures share { result.share ≡ share }
-        ensures sound { Sound result }
-    {
+        let share = checked.share_in(records);
+        let records = &mut records[..32 * share];
         clear(records);
         Hashed {
             records,
-            bounds: [empty_bounds(); 16],
+            bounds: [Bounds::empty(); 16],
             share,
         }
     }
 
-    // The port of an address, from the stretch of its database.
-    fn port_at(&self, fid: u8, address: [u8; 6]) -> Option<u8>
-        requires { (is_fid fid ≡ true) × (Sound self.now) }
-        ensures { result ≡ port_of (lookup (set_of self.now) fid address) }
+    // Where the stretch of a row lies.
+    fn stretch(&self, row: usize) -> Range<usize>
+        requires { row < 16 }
+        ensures start { result.start ≡ start_of self.now.share row }
+        ensures end { result.end ≡ start_of self.now.share row + 2 * self.now.share }
+        ensures fits { result.end ≤ 32 * self.now.share }
     {
-        let row = row_of(fid);
-        let start = start_of(self.share, row);
-        let end = start + 2 * self.share;
-        port_of(&self.records[start..end], self.bounds[row], fid, address)
+        let start = row * (2 * self.share);
+        start..start + 2 * self.share
+    }
+
+    // The port of an address, from the stretch of its database.
+    fn port_at(&self, row: usize, key: Key) -> Option<u8>
+        requires below { row < 16 }
+        requires own { row + 1 ≡ key.fid }
+        ensures { result ≡ port_of (lookup (set_of self.now) key.fid key.address) }
+    {
+        let stretch = self.stretch(row);
+        port_of(&self.records[stretch], self.bounds[row], key)
     }
 
     // Learns an entry in the stretch of its database.
-    fn learn_at(&mut self, entry: Entry) -> Mark
-        requires { (is_fid entry.fid ≡ true) × (Sound self.old) }
-        ensures mark { Ok result ≡ marked self.old.share (set_of self.old) entry.fid entry.address entry.port }
-        ensures later { set_of self.new ≡ after_learn self.old.share (set_of self.old) entry.fid entry.address entry.port entry.heard }
+    fn learn_at(&mut self, row: usize, entry: Entry) -> Mark
+        requires below { row < 16 }
+        requires own { row + 1 ≡ entry.key.fid }
+        ensures mark { Ok result ≡ marked self.old.share (set_of self.old) entry.key.fid entry.key.address entry.port }
+        ensures later { set_of self.new ≡ after_learn self.old.share (set_of self.old) entry.key.fid entry.key.address entry.port entry.heard }
         ensures share { self.new.share ≡ self.old.share }
-        ensures sound { Sound self.new }
     {
-        let share = self.share;
-        let row = row_of(entry.fid);
-        let start = start_of(share, row);
-        let end = start + 2 * share;
-        let mut bounds = self.bounds[row];
-        let mark = learn(&mut self.records[start..end], &mut bounds, share, entry);
-        self.bounds[row] = bounds;
-        mark
+        let stretch = self.stretch(row);
+        learn(
+            &mut self.records[stretch],
+            &mut self.bounds[row],
+            self.share,
+            entry,
+        )
     }
 
     // Frees the stretch of a database, and says how many entries it held.
-    fn flush_at(&mut self, fid: u8) -> usize
-        requires { (is_fid fid ≡ true) × (Sound self.old) }
-        ensures gone { Ok result ≡ flushed (set_of self.old) fid }
-        ensures later { set_of self.new ≡ after_flush (set_of self.old) fid }
+    fn flush_at(&mut self, row: usize) -> usize
+        requires { row < 16 }
+        ensures gone { Ok result ≡ flushed (set_of self.old) (row + 1) }
+        ensures later { set_of self.new ≡ after_flush (set_of self.old) (row + 1) }
         ensures share { self.new.share ≡ self.old.share }
-        ensures sound { Sound self.new }
     {
-        let row = row_of(fid);
-        let start = start_of(self.share, row);
-        let end = start + 2 * self.share;
-        clear(&mut self.records[start..end]);
-        let gone = self.bounds[row].held;
-        self.bounds[row] = empty_bounds();
-        gone
+        let stretch = self.stretch(row);
+        clear(&mut self.records[stretch]);
+        mem::replace(&mut self.bounds[row], Bounds::empty()).held
     }
 
     // Frees the records of one stretch that were heard at the limit or before it. The bounds are then
     // measured anew, so that what went away does not make later searches longer.
-    fn expire_stretch(&mut self, row: usize, limit: u64)
-        requires { (row < 16) × (Laid self.old) }
-        ensures laid { Laid self.new }
+    fn expire_row(&mut self, row: usize, limit: u64)
+        requires { row < 16 }
         ensures share { self.new.share ≡ self.old.share }
-        ensures swept { (xs : List Entry) → SweptTo self.old.share limit row xs self.old.records.now → SweptTo self.old.share limit (row + 1) xs self.new.records.now }
+        ensures swept { held_of self.new.records.now ≡ filter (spared limit (row + 1)) (held_of self.old.records.now) }
     {
-        if none_due(self.bounds[row], limit) {
+        if !self.bounds[row].is_due(limit) {
             return;
         }
-        let start = start_of(self.share, row);
-        let end = start + 2 * self.share;
-        sweep(&mut self.records[start..end], limit);
-        self.bounds[row] = self.measure_stretch(row);
-    }
-
-    // The bounds of one stretch, from its records.
-    fn measure_stretch(&self, row: usize) -> Bounds
-        requires { (row < 16) × ((self.now.share ≤ 256) × (length self.now.records.now ≡ 32 * self.now.share)) }
-        ensures { result ≡ measured (stretch_of self.now.share row self.now.records.now) }
-    {
-        let start = start_of(self.share, row);
-        let end = start + 2 * self.share;
-        measure(&self.records[start..end])
+        let stretch = self.stretch(row);
+        let records = &mut self.records[stretch];
+        sweep(records, limit);
+        self.bounds[row] = Bounds::of(records);
     }
 }
 
 impl<'a> Table for Hashed<'a> {
+    ghost use Rattle.table.proofs.Implement.{fair_rising, ranged_rising};
+    ghost use Rattle.table.proofs.Rising.{rises_rising};
+    ghost use Rattle.hashed.specs.Sets.{set_of};
+
     ghost entries = { set_of };
 
     ghost share = { λ s. s.share };
 
-    ghost sound = { Sound };
-
-    fn well_formed(&self) {}
-
-    fn find(&mut self, fid: u8, address: [u8; 6]) -> Result<Option<u8>, Refusal> {
-        if !is_fid(fid) {
-            return Err(Refusal::FidOutOfRange);
-        }
-        Ok(self.port_at(fid, address))
+    fn find(&mut self, key: Key) -> Result<Option<u8>, Refusal> {
+        let row = Fid::try_from(key.fid)?.row();
+        Ok(self.port_at(row, key))
     }
 
-    fn learn(&mut self, fid: u8, address: [u8; 6], port: u8, heard: u64) -> Result<Mark, Refusal> {
-        if !is_fid(fid) {
-            return Err(Refusal::FidOutOfRange);
-        }
-        Ok(self.learn_at(Entry {
-            fid,
-            address,
-            port,
-            heard,
-        }))
+    fn learn(&mut self, entry: Entry) -> Result<Mark, Refusal> {
+        let row = Fid::try_from(entry.key.fid)?.row();
+        Ok(self.learn_at(row, entry))
     }
 
+    #[tactic(auto, using(crate::proofs::Calls::none_yet, crate::proofs::Calls::one_more))]
     fn expire(&mut self, limit: u64) {
+        // By row: a share may be 0, and there is no going over chunks of 0 records.
         for row in 0..16 {
-            self.expire_stretch(row, limit);
+            self.expire_row(row, limit);
         }
     }
 
     fn flush(&mut self, fid: u8) -> Result<usize, Refusal> {
-        if !is_fid(fid) {
-            return Err(Refusal::FidOutOfRange);
-        }
-        Ok(self.flush_at(fid))
+        let row = Fid::try_from(fid)?.row();
+        Ok(self.flush_at(row))
     }
+
+    ghost rising = { λ s. rises_rising (held_of s.records.now) };
+
+    ghost ranged = { λ s. ranged_rising s.share (held_of s.records.now) s.orderly };
+
+    ghost fair = { λ s. fair_rising s.share (held_of s.records.now) s.orderly };
 }

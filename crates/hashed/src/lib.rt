@@ -1,7 +1,5 @@
 // A filtering table whose records are placed by a hash, in a stretch for each filtering database.
 #![tactic(auto)]
 
-pub mod check;
-pub mod checked;
 pub mod hashed;
 mod stretch;

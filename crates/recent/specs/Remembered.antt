@@ -1,16 +1,15 @@
--- Remembered answers: eight slots, each with a pair of FID and address and what find answered for it, or
--- with nothing. A change of the table touches the answers that may differ after it, and these are forgotten.
-use Rattle.std.specs.Prelude.{ℕ, Bool, true, false, cond, ◌&&◌, List, [], ◌∷◌, is_some, Some, None, Option, ◌==◌}
+-- Remembered answers: eight slots, each with a key and what find answered for it, or with nothing. A change
+-- of the table touches the answers that may differ after it, and these are forgotten.
+use Rattle.std.specs.Prelude.{◌≡◌, ℕ, Bool, true, false, cond, ◌&&◌, List, [], ◌∷◌, is_some, Some, None, Option, ◌==◌}
+use Rattle.std.specs.Fn.{Shared}
 use Rattle.std.specs.Str.{bytes_eq}
 use Rattle.fault.specs.declared.mark.Mark.{Mark}
 use Rattle.fault.specs.declared.mark.Mark.TheVariants.{New, Known, Moved, Full, Unlearned}
 use Rattle.recent.specs.declared.remembered.Remembered.{Remembered}
-use Rattle.recent.specs.declared.remembered.Change.{Change}
-use Rattle.recent.specs.declared.remembered.Change.TheVariants.{Learned, Flushed, Expired}
 
 -- The answer is for this pair.
 abbrev pub is_of : ℕ → List ℕ → Remembered → Bool
-is_of f a m = m.fid == f && bytes_eq m.address a
+is_of f a m = m.key.fid == f && bytes_eq m.key.address a
 
 -- What a slot says of a pair.
 abbrev pub said_by : Option Remembered → ℕ → List ℕ → Option (Option ℕ)
@@ -26,16 +25,22 @@ abbrev pub recalled : List (Option Remembered) → ℕ → List ℕ → Option (
 recalled [] f a = None
 recalled (s ∷ ss) f a = or_else (said_by s f a) (recalled ss f a)
 
--- Whether an answer may differ after a change. What expires takes ports away and brings none.
-abbrev pub touches : Change → Remembered → Bool
-touches (Learned f a) m = is_of f a m
-touches (Flushed f) m = m.fid == f
-touches Expired m = is_some m.port
+-- The answers that a change touches: those for a pair that was learned (is_of), those of a database that was
+-- flushed, and those with a port where entries expired. What expires takes ports away and brings none.
+abbrev pub in_fid : ℕ → Remembered → Bool
+in_fid f m = m.key.fid == f
 
--- What a change leaves of a slot.
-abbrev pub left : Change → Option Remembered → Option Remembered
-left c None = None
-left c (Some m) = cond (touches c m) None (Some m)
+abbrev pub has_port : Remembered → Bool
+has_port m = is_some m.port
+
+-- A closure answers what a test does.
+abbrev pub Computes : {F : Type 0} → Shared F (Remembered × Unit {0}) Bool → F → (Remembered → Bool) → Type 0
+Computes g f test = (m : Remembered) (b : Bool) → g.post f (m, tt) b → b ≡ test m
+
+-- What is left of a slot where the answers that are touched are forgotten.
+abbrev pub left : (Remembered → Bool) → Option Remembered → Option Remembered
+left touched None = None
+left touched (Some m) = cond (touched m) None (Some m)
 
 -- Whether answers may differ after a learn with this mark.
 abbrev pub alters : Mark → Bool

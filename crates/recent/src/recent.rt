@@ -1,40 +1,39 @@
 // A table that answers from memory what it was asked lately. It means what the table below it means.
-ghost use Rattle.std.specs.Prelude.{◌≡◌, ◌+◌, ◌%◌, replicate, None};
-ghost use Rattle.recent.specs.Right.{Right};
+ghost use Rattle.std.specs.Prelude.{◌≡◌, ◌<◌, replicate, None};
+ghost use Rattle.recent.specs.Right.{Right, Right-prop};
 
-use crate::memory::{alters, empty, forget, recall, remember};
-use crate::remembered::{Change, Remembered};
+use crate::memory::{alters, forget, recall};
+use crate::remembered::Remembered;
 use fault::mark::Mark;
 use fault::refusal::Refusal;
+use table::entry::{Entry, Key};
 use table::table::Table;
 
 #[derive(Drop)]
 pub struct Recent<T: Table> {
     table: T,
+    // Eight, in fixed memory, written in turn.
     slots: [Option<Remembered>; 8],
     // The slot that is written next.
     next: u8,
+    // Each remembered answer is what the table below would answer.
+    ghost right: { Right (T.Table.entries table) slots } by { Right-prop (T.Table.entries table) slots },
+    ghost below: { next < 8 },
 }
 
 impl<T: Table> Recent<T> {
+    #[tactic(auto, using(crate::proofs::Rights::right_empty))]
     pub fn new(table: T) -> Recent<T>
-        requires { T.Table.sound table }
         ensures table { result.table ≡ table }
-        ensures empty { (result.slots ≡ replicate 8 None) × (result.next ≡ 0) }
-        ensures sound { T.Table.sound result.table × Right (T.Table.entries result.table) result.slots }
+        ensures empty { result.slots ≡ replicate 8 None }
+        ensures first { result.next ≡ 0 }
     {
         Recent {
             table,
-            slots: empty(),
+            slots: [None; 8],
             next: 0,
         }
     }
-}
-
-fn following(slot: u8) -> u8
-    ensures { result ≡ (slot % 8 + 1) % 8 }
-{
-    (slot % 8 + 1) % 8
 }
 
 impl<T: Table> Table for Recent<T> {
@@ -42,42 +41,39 @@ impl<T: Table> Table for Recent<T> {
 
     ghost share = { λ s. T.Table.share s.table };
 
-    ghost sound = { λ s. T.Table.sound s.table × Right (T.Table.entries s.table) s.slots };
-
-    fn well_formed(&self) {
-        self.table.well_formed();
-    }
-
-    fn find(&mut self, fid: u8, address: [u8; 6]) -> Result<Option<u8>, Refusal> {
-        if let Some(port) = recall(&self.slots, fid, address) {
+    #[tactic(auto, using(crate::proofs::Rights::remembers))]
+    fn find(&mut self, key: Key) -> Result<Option<u8>, Refusal> {
+        if let Some(port) = recall(&self.slots, key) {
             return Ok(port);
         }
-        let port = self.table.find(fid, address)?;
-        remember(
-            &mut self.slots,
-            usize::from(self.next),
-            Remembered { fid, address, port },
-        );
-        self.next = following(self.next);
+        let port = self.table.find(key)?;
+        self.slots[usize::from(self.next)] = Some(Remembered { key, port });
+        self.next = (self.next + 1) % 8;
         Ok(port)
     }
 
-    fn learn(&mut self, fid: u8, address: [u8; 6], port: u8, heard: u64) -> Result<Mark, Refusal> {
-        let mark = self.table.learn(fid, address, port, heard)?;
+    fn learn(&mut self, entry: Entry) -> Result<Mark, Refusal> {
+        let mark = self.table.learn(entry)?;
         if alters(mark) {
-            forget(&mut self.slots, Change::Learned(fid, address));
+            forget(&mut self.slots, |answer| answer.is_of(entry.key));
         }
         Ok(mark)
     }
 
     fn expire(&mut self, limit: u64) {
         self.table.expire(limit);
-        forget(&mut self.slots, Change::Expired);
+        forget(&mut self.slots, |answer| answer.port.is_some());
     }
 
     fn flush(&mut self, fid: u8) -> Result<usize, Refusal> {
         let gone = self.table.flush(fid)?;
-        forget(&mut self.slots, Change::Flushed(fid));
+        forget(&mut self.slots, |answer| answer.key.fid == fid);
         Ok(gone)
     }
+
+    ghost rising = { λ s. T.Table.rising s.table };
+
+    ghost ranged = { λ s. T.Table.ranged s.table };
+
+    ghost fair = { λ s. T.Table.fair s.table };
 }

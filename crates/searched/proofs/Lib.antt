@@ -1,3 +1,2 @@
-pub mod Turns
-pub mod Places
 pub mod Oldest
+pub mod Places

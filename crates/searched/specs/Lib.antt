@@ -1,3 +1,2 @@
-pub mod Checks
 pub mod Records
-pub mod Sound
+pub mod Sets

@@ -1,98 +1,88 @@
 // The records of a searched table: the first `used` of them hold entries, in the order in which they came.
-ghost use Rattle.std.specs.Prelude.{◌≡◌, ◌+◌, ◌<◌, [], ◌∷◌, ◌++◌, length, filter};
-ghost use Rattle.table.specs.Entries.{count_of};
-ghost use Rattle.searched.specs.Records.{Sits, oldest_of, passes, place_of, taken};
+ghost use Rattle.std.specs.Prelude.{◌≤◌, length};
 
-use table::entry::Entry;
+use table::entry::{Entry, Key};
 
+// The memory is lent and has a fixed size, so how much of it is used stands beside it.
 #[derive(Drop)]
 pub struct Rows<'a> {
     pub all: &'a mut [Entry],
     pub used: usize,
-}
-
-// Which entries stay when others are removed.
-#[derive(Clone, Copy)]
-pub enum Keep {
-    HeardAfter(u64),
-    NotOf(u8),
-}
-
-impl Keep {
-    fn passes(self, e: &Entry) -> bool
-        ensures { result ≡ passes self e.now }
-    {
-        match self {
-            Keep::HeardAfter(limit) => limit < e.heard,
-            Keep::NotOf(fid) => e.fid != fid,
-        }
-    }
+    pub ghost sits: { used ≤ length all.now },
 }
 
 impl<'a> Rows<'a> {
-    // The index of the entry of a pair, or `used` where there is none.
-    pub(crate) fn place(&self, fid: u8, address: [u8; 6]) -> usize
-        requires { Sits self.now }
-        ensures { result ≡ place_of (taken self.now) fid address }
+    ghost use Rattle.std.specs.Prelude.{◌≡◌, ◌<◌, Bool, [], ◌∷◌, ◌++◌, filter, position, slice_set};
+    ghost use Rattle.table.specs.Entries.{entries_of, has_key};
+    ghost use Rattle.table.specs.declared.entry.Entry.{Entry};
+    ghost use Rattle.searched.specs.Records.{Computes, oldest_of, taken};
+
+    pub(crate) fn entries(&self) -> &[Entry]
+        ensures { result.now ≡ taken self.now }
     {
-        for (i, entry) in self.all[..self.used].iter().enumerate() {
-            if entry.has_key(fid, address) {
-                return i;
-            }
-        }
-        self.used
+        &self.all[..self.used]
+    }
+
+    // The index of the entry of a pair.
+    pub(crate) fn place(&self, key: Key) -> Option<usize>
+        ensures { result ≡ position (has_key key.fid key.address) (taken self.now) }
+    {
+        self.entries().iter().position(|e| e.has_key(key))
     }
 
     pub(crate) fn count(&self, fid: u8) -> usize
-        requires { Sits self.now }
-        ensures { result ≡ count_of fid (taken self.now) }
+        ensures { result ≡ length (entries_of fid (taken self.now)) }
     {
-        let mut n = 0;
-        for entry in &self.all[..self.used] {
-            if entry.fid == fid {
-                n += 1;
-            }
-        }
-        n
+        self.entries().iter().filter(|e| e.key.fid == fid).count()
     }
 
     // When the entry that was heard longest ago was heard, or the end of time where there is none.
     pub(crate) fn oldest(&self) -> u64
-        requires { Sits self.now }
         ensures { result ≡ oldest_of (taken self.now) }
     {
-        let mut least = u64::MAX;
-        for entry in &self.all[..self.used] {
-            least = least.min(entry.heard);
-        }
-        least
+        self.entries()
+            .iter()
+            .map(|e| e.heard)
+            .min()
+            .unwrap_or(u64::MAX)
     }
 
-    // Removes the entries that do not pass, and moves the others up.
-    pub(crate) fn retain(&mut self, keep: Keep)
-        requires { Sits self.old }
-        ensures later { taken self.new ≡ filter (passes keep) (taken self.old) }
-        ensures sits { Sits self.new }
+    // Removes the entries that do not pass, and moves the others up. `test` is what the closure says of
+    // each entry.
+    pub(crate) fn retain<F: Fn(&Entry) -> bool>(&mut self, keep: F)
+        ghost test: { Entry → Bool }
+        requires callable { F.IsAlwaysCallable keep }
+        requires tests { Computes (F.post keep) test }
+        ensures later { taken self.new ≡ filter test (taken self.old) }
         ensures room { length self.new.all.now ≡ length self.old.all.now }
     {
-        let mut k = 0;
+        // By index: an entry is read at one place and written at another, and slices have no `retain`.
+        let mut kept = 0;
         for i in 0..self.used {
-            let e = self.all[i];
-            if keep.passes(&e) {
-                self.all[k] = e;
-                k += 1;
+            let entry = self.all[i];
+            if keep(&entry) {
+                self.all[kept] = entry;
+                kept += 1;
             }
         }
-        self.used = k;
+        self.used = kept;
     }
 
-    pub(crate) fn push(&mut self, e: Entry)
-        requires { self.old.used < length self.old.all.now }
-        ensures later { taken self.new ≡ taken self.old ++ e ∷ [] }
-        ensures sits { Sits self.new }
+    // Writes an entry in the place of another.
+    pub(crate) fn write(&mut self, at: usize, entry: Entry)
+        requires { at < self.old.used }
+        ensures later { taken self.new ≡ slice_set (taken self.old) at entry }
         ensures room { length self.new.all.now ≡ length self.old.all.now }
     {
-        self.all[self.used] = e;
+        self.all[at] = entry;
+    }
+
+    pub(crate) fn push(&mut self, entry: Entry)
+        requires { self.old.used < length self.old.all.now }
+        ensures later { taken self.new ≡ taken self.old ++ entry ∷ [] }
+        ensures room { length self.new.all.now ≡ length self.old.all.now }
+    {
+        self.all[self.used] = entry;
         self.used += 1;
     }
 }

@@ -20,7 +20,7 @@ fn picks_what_stands<S: Selector>(rt: &impl Abort, selector: &mut S) -> Result<(
     Ok(())
 }
 
-// Refusal 2 at every port above 15, whatever stands there.
+// Refusal 2, the number that callers know, at every port above 15, whatever stands there.
 fn refuses_other_ports<S: Selector>(rt: &impl Abort, selector: &mut S) {
     for port in 16..=255u8 {
         for bits in [0, 1, 0b1010_0000, ALL] {

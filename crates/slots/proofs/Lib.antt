@@ -1,3 +1,3 @@
 pub mod Probing
 pub mod Measured
-pub mod Swept
+pub mod Cleared

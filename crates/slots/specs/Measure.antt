@@ -11,11 +11,18 @@ empty_bounds = record { held = 0; reach = 0; oldest = 18446744073709551615 }
 
 -- How many records a search among n passes up to an entry at the place i, with that place.
 abbrev pub passes : ℕ → ℕ → Entry → ℕ
-passes n i e = gap n (home_of n e.fid e.address) i + 1
+passes n i e = gap n (home_of n e.key.fid e.key.address) i + 1
+
+-- The bounds with one entry more, so many steps past its home; and with an entry heard at another time.
+abbrev pub with_new : Bounds → ℕ → ℕ → Bounds
+with_new b steps heard = record { held = b.held + 1; reach = max b.reach (steps + 1); oldest = min b.oldest heard }
+
+abbrev pub with_heard : Bounds → ℕ → Bounds
+with_heard b heard = record { held = b.held; reach = b.reach; oldest = min b.oldest heard }
 
 -- The bounds with the record at i: a free record counts for nothing.
 abbrev pub counted : ℕ → ℕ → Bounds → Entry → Bounds
-counted n i b e = cond (is_free e) b (record { held = b.held + 1; reach = max b.reach (passes n i e); oldest = min b.oldest e.heard })
+counted n i b e = cond (is_free e) b (with_new b (gap n (home_of n e.key.fid e.key.address) i) e.heard)
 
 -- The bounds with the records from i on.
 abbrev pub counted_from : ℕ → ℕ → Bounds → List Entry → Bounds

@@ -1,57 +1,99 @@
 // A search begins at the home of a pair of database and address and goes round. Nothing marks its end:
 // a record that was freed may lie before the entry, so the caller says how far entries reach.
-ghost use Rattle.std.specs.Prelude.{◌≡◌, min, length};
+ghost use Rattle.std.specs.Prelude.{◌≡◌, ◌+◌, ◌^◌, ◌<◌, Bool, IfSome, min, length, take, position};
+ghost use Rattle.table.specs.declared.entry.Entry.{Entry};
 ghost use Rattle.table.specs.Entries.{has_key, is_free};
 ghost use Rattle.slots.specs.Hash.{home_of};
 ghost use Rattle.slots.specs.Probe.{Found};
 
-use crate::hash::{around, home};
-use table::entry::Entry;
+use crate::hash::home;
+use table::entry::{Entry, Key};
 
 // A record, and how many steps it is past the home from which it was found.
-#[derive(Clone, Copy)]
+#[derive(Clone, Copy, PartialEq, Eq, Debug, Drop)]
 pub struct Spot {
     pub at: usize,
     pub steps: usize,
 }
 
-// Whether a record holds the entry of a pair. The last byte is compared first: it nearly always tells,
-// for a free record too.
-fn is_of(entry: &Entry, fid: u8, address: [u8; 6]) -> bool
-    ensures { result ≡ has_key fid address entry.now }
-{
-    if entry.address[5] != address[5] {
-        return false;
+// What a search looks for. It is no closure: a proof would have to say at each call what the closure answers.
+trait Sought {
+    ghost matches: { Self → Entry → Bool };
+
+    fn is_in(&self, entry: &Entry) -> bool
+        ensures { result ≡ matches self.now entry.now };
+}
+
+// The entry of a pair. The last byte is compared first: it nearly always tells, for a free record too.
+impl Sought for Key {
+    ghost matches = { λ key. has_key key.fid key.address };
+
+    #[tactic(auto, using(crate::proofs::Probing::other_byte))]
+    fn is_in(&self, entry: &Entry) -> bool {
+        if entry.key.address[5] != self.address[5] {
+            return false;
+        }
+        entry.has_key(*self)
     }
-    entry.has_key(fid, address)
+}
+
+// A record that holds no entry.
+struct Free;
+
+impl Sought for Free {
+    ghost matches = { λ free. is_free };
+
+    fn is_in(&self, entry: &Entry) -> bool {
+        entry.is_free()
+    }
+}
+
+// The place of the first record that matches, among the first `reach`.
+fn first<T: Sought>(records: &[Entry], reach: usize, sought: &T) -> Option<usize>
+    ensures value { result ≡ position (T.matches sought.now) (take reach records.now) }
+    ensures below { IfSome result (λ at. at < length records.now) }
+{
+    records
+        .iter()
+        .take(reach)
+        .position(|entry| sought.is_in(entry))
+}
+
+// A record before the home, to which a search comes after all those from the home on.
+fn gone_round(after: usize, at: usize) -> Spot
+    requires { after + at < 2 ^ 64 }
+    ensures { result ≡ record { at = at; steps = after + at } }
+{
+    let steps = after + at;
+    Spot { at, steps }
+}
+
+// The first record that matches, among the first `reach` from the home of a pair on: those from the home
+// to the last one, and then those before it.
+fn search<T: Sought>(records: &[Entry], reach: usize, key: Key, sought: &T) -> Option<Spot>
+    ensures { Found (T.matches sought.now) records.now (home_of (length records.now) key.fid key.address) (min reach (length records.now)) result }
+{
+    let (before, after) = records.split_at(home(records.len(), key));
+    if let Some(steps) = first(after, reach, sought) {
+        return Some(Spot {
+            at: before.len() + steps,
+            steps,
+        });
+    }
+    let at = first(before, reach.saturating_sub(after.len()), sought)?;
+    Some(gone_round(after.len(), at))
 }
 
 // The record of a pair, among the first `reach` records from its home on.
-pub fn place(records: &[Entry], reach: usize, fid: u8, address: [u8; 6]) -> Option<Spot>
-    ensures { Found (has_key fid address) records.now (home_of (length records.now) fid address) (min reach (length records.now)) result }
+pub fn place(records: &[Entry], reach: usize, key: Key) -> Option<Spot>
+    ensures { Found (has_key key.fid key.address) records.now (home_of (length records.now) key.fid key.address) (min reach (length records.now)) result }
 {
-    let n = records.len();
-    let start = home(n, fid, address);
-    for steps in 0..reach.min(n) {
-        let at = around(n, start, steps);
-        if is_of(&records[at], fid, address) {
-            return Some(Spot { at, steps });
-        }
-    }
-    None
+    search(records, reach, key, &key)
 }
 
 // The first free record from the home of a pair on.
-pub fn vacant(records: &[Entry], fid: u8, address: [u8; 6]) -> Option<Spot>
-    ensures { Found is_free records.now (home_of (length records.now) fid address) (length records.now) result }
+pub fn vacant(records: &[Entry], key: Key) -> Option<Spot>
+    ensures { Found is_free records.now (home_of (length records.now) key.fid key.address) (length records.now) result }
 {
-    let n = records.len();
-    let start = home(n, fid, address);
-    for steps in 0..n {
-        let at = around(n, start, steps);
-        if records[at].is_free() {
-            return Some(Spot { at, steps });
-        }
-    }
-    None
+    search(records, records.len(), key, &Free)
 }

@@ -19,17 +19,15 @@ fn sift(limit: u64, entry: Entry) -> Entry
 pub fn sweep(records: &mut [Entry], limit: u64)
     ensures { records.new ≡ map (heard_later limit) records.old }
 {
-    for at in 0..records.len() {
-        let entry = records[at];
-        records[at] = sift(limit, entry);
+    for record in records.iter_mut() {
+        *record = sift(limit, *record);
     }
 }
 
 // Frees every record.
+#[tactic(auto, using(crate::proofs::Cleared::all_free))]
 pub fn clear(records: &mut [Entry])
     ensures { records.new ≡ map cleared records.old }
 {
-    for i in 0..records.len() {
-        records[i] = Entry::free();
-    }
+    records.fill(Entry::free());
 }

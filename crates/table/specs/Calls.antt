@@ -17,11 +17,15 @@ port_of (Some e) = Some e.port
 abbrev pub answered : List Entry → ℕ → List ℕ → Result (Option ℕ) Refusal
 answered l f a = cond (is_fid f) (Ok (port_of (lookup l f a))) (Err FidOutOfRange)
 
+-- The mark for a pair that was heard before, by the port then and the port now.
+abbrev pub again : ℕ → ℕ → Mark
+again before p = cond (before == p) Known Moved
+
 -- The mark for a pair that stands in the set, or for one that does not, where its filtering
 -- database has n entries.
 abbrev pub mark_at : ℕ → ℕ → ℕ → Option Entry → Mark
 mark_at share n p None = cond (nat_lt n share) New Full
-mark_at share n p (Some e) = cond (e.port == p) Known Moved
+mark_at share n p (Some e) = again e.port p
 
 -- What `learn` answers.
 abbrev pub marked : ℕ → List Entry → ℕ → List ℕ → ℕ → Result Mark Refusal
@@ -29,7 +33,7 @@ marked share l f a p = cond (is_fid f) (Ok (mark_at share (count_of f l) p (look
 
 -- The set with an entry learned, where `old` is the entry that its pair had.
 abbrev pub learn_at : ℕ → List Entry → Entry → Option Entry → List Entry
-learn_at share l e None = cond (nat_lt (count_of e.fid l) share) (insert e l) l
+learn_at share l e None = cond (nat_lt (count_of e.key.fid l) share) (insert e l) l
 learn_at share l e (Some old) = insert e l
 
 -- What `learn` leaves.

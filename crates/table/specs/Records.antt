@@ -19,7 +19,7 @@ holds (e ∷ es) f a = cond (has_key f a e) true (holds es f a)
 -- No two entries are of one pair.
 abbrev pub distinct : List Entry → Bool
 distinct [] = true
-distinct (e ∷ es) = not (holds es e.fid e.address) && distinct es
+distinct (e ∷ es) = not (holds es e.key.fid e.key.address) && distinct es
 
 -- The entry of a pair is written anew, where it lies.
 abbrev pub rewritten : List Entry → ℕ → List ℕ → ℕ → ℕ → List Entry

@@ -1,21 +1,17 @@
 -- One set has one list: its entries rising by FID, and within a filtering database by address, byte by
 -- byte from the first. This file has the order, the place of an entry in a rising list, and the
 -- rising list of entries that are given in any order.
-use Rattle.std.specs.Prelude.{ℕ, Bool, true, cond, ◌&&◌, List, [], ◌∷◌, nat_lt}
+use Rattle.std.specs.Prelude.{Bool, true, ◌&&◌, List, [], ◌∷◌}
 use Rattle.std.specs.declared.cmp.Ordering.TheVariants.{Less, Equal, Greater}
 use Rattle.std.specs.declared.cmp.Ordering.{Ordering}
-use Rattle.std.specs.Ordering.{is_lt}
+use Rattle.std.specs.List.{list_all}
+use Rattle.std.specs.Ordering.{is_lt, nat_cmp, ordering_then}
+use Rattle.std.specs.Cmp.Lexicographic.{slice_cmp}
 use Rattle.table.specs.declared.entry.Entry.{Entry}
-
-abbrev pub bytes_order : List ℕ → List ℕ → Ordering
-bytes_order [] [] = Equal
-bytes_order [] (y ∷ ys) = Less
-bytes_order (x ∷ xs) [] = Greater
-bytes_order (x ∷ xs) (y ∷ ys) = cond (nat_lt x y) Less (cond (nat_lt y x) Greater (bytes_order xs ys))
 
 -- The FID counts first, then the address. Port and time do not count.
 unfoldable pub order : Entry → Entry → Ordering
-order x y = bytes_order (x.fid ∷ x.address) (y.fid ∷ y.address)
+order x y = ordering_then (nat_cmp x.key.fid y.key.fid) (slice_cmp nat_cmp x.key.address y.key.address)
 
 abbrev pub insert_by : Ordering → Entry → Entry → List Entry → List Entry → List Entry
 insert_by Less e x xs rest = e ∷ x ∷ xs
@@ -34,10 +30,10 @@ rising (e ∷ es) = insert e (rising es)
 
 -- The entry comes before each of a list.
 abbrev pub comes_before : Entry → List Entry → Bool
-comes_before e [] = true
-comes_before e (x ∷ xs) = is_lt (order e x) && comes_before e xs
+comes_before e l = list_all (λ x. is_lt (order e x)) l
 
--- Each entry comes before those that follow it.
+-- Each entry comes before those that follow it. A test that computes, where std's words for sorted
+-- lists are types.
 abbrev pub rises : List Entry → Bool
 rises [] = true
 rises (e ∷ es) = comes_before e es && rises es

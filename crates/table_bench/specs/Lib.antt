@@ -1,2 +1,3 @@
+pub mod Kinds
 pub mod Work
 pub mod Task

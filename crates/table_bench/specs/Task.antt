@@ -1,8 +1,7 @@
 -- What a call of the benchmark answers: the checksum of its task, done by a table with the share 256.
-use Rattle.std.specs.Prelude.{ℕ, ◌*◌, ◌%◌, min, max, cond, nat_lt}
-use Rattle.table_bench.specs.declared.task.Task.{Task}
-use Rattle.table_bench.specs.declared.task.Task.TheVariants.{Find, Learn}
-use Rattle.table_bench.specs.Work.{filled, find_sum, learn_sum}
+use Rattle.std.specs.Prelude.{ℕ, ◌*◌, ◌%◌, min, max, cond, List, nat_lt}
+use Rattle.table.specs.declared.entry.Entry.{Entry}
+use Rattle.table_bench.specs.Work.{filled, sum_of}
 
 -- The entries in all databases, for a load of each: at least 1 and at most the share.
 abbrev pub entries_for : ℕ → ℕ
@@ -12,10 +11,10 @@ entries_for load = 16 * max 1 (min load 256)
 abbrev pub stride_of : ℕ → ℕ
 stride_of n = 7919 % n
 
-abbrev pub performed : Task → ℕ → ℕ → ℕ
-performed (Find from) n rounds = find_sum (filled 256 n) n (stride_of n) from (rounds * n)
-performed Learn n rounds = learn_sum 256 (filled 256 n) n (stride_of n) (rounds * n)
+-- What a task comes to that leaves a set and adds to a checksum so at each entry.
+abbrev pub performed : (ℕ → List Entry → ℕ → ℕ → List Entry) → (ℕ → List Entry → ℕ → ℕ) → ℕ → ℕ → ℕ
+performed later worth n rounds = sum_of later worth 256 (filled 256 n) n (stride_of n) (rounds * n)
 
--- There are four kinds of tables.
-abbrev pub timed : ℕ → Task → ℕ → ℕ → ℕ
-timed kind task load rounds = cond (nat_lt kind 4) (performed task (entries_for load) rounds) 0
+-- There are four kinds of tables. They all come to the same.
+abbrev pub timed : ℕ → ℕ → ℕ
+timed kind sum = cond (nat_lt kind 4) sum 0

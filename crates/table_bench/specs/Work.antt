@@ -7,6 +7,7 @@ use Rattle.fault.specs.declared.mark.Mark.TheVariants.{New, Known, Moved, Full, 
 use Rattle.fault.specs.declared.refusal.Refusal.{Refusal}
 use Rattle.table.specs.declared.entry.Entry.{Entry}
 use Rattle.table.specs.Calls.{answered, marked, after_learn}
+use Rattle.table.specs.Entries.{new_entry}
 
 -- The filtering database and the port of the entry with a number.
 abbrev pub fid_at : ℕ → ℕ
@@ -22,6 +23,10 @@ address_at n = 0 ∷ 27 ∷ 33 ∷ 0 ∷ n / 256 % 256 ∷ n % 256 ∷ []
 -- The number that comes after another where n entries are gone through in strides, going round.
 abbrev pub strode : ℕ → ℕ → ℕ → ℕ
 strode n stride at = cond (nat_lt (at + stride) n) (at + stride) (at + stride - n)
+
+-- The entry with a number, heard at a time.
+abbrev pub entry_at : ℕ → ℕ → Entry
+entry_at i t = new_entry (fid_at i) (address_at (i / 16)) (port_at i) t
 
 -- The entry that has its turn at a step.
 unfoldable pub turn_of : ℕ → ℕ → ℕ → ℕ
@@ -51,16 +56,26 @@ worth_of_mark (Err e) = 0
 abbrev pub plus : ℕ → ℕ → ℕ
 plus sum x = (sum + x) % 2 ^ 64
 
--- The checksum of k finds among n entries, from the address with the number `from` on.
-unfoldable pub find_sum : List Entry → ℕ → ℕ → ℕ → ℕ → ℕ
-find_sum l n stride from zero = 0
-find_sum l n stride from (suc k) = plus (find_sum l n stride from k) (worth_of (answered l (fid_at (turn_of n stride k)) (address_at (from + turn_of n stride k / 16))))
+-- A find leaves the set as it was, and is worth what it answers, from the address with the number `from` on.
+abbrev pub unaltered : ℕ → List Entry → ℕ → ℕ → List Entry
+unaltered share l at k = l
 
--- The set after k of n entries were heard again, each at the time of its step, and the checksum of that.
-unfoldable pub heard_again : ℕ → List Entry → ℕ → ℕ → ℕ → List Entry
-heard_again share l n stride zero = l
-heard_again share l n stride (suc k) = after_learn share (heard_again share l n stride k) (fid_at (turn_of n stride k)) (address_at (turn_of n stride k / 16)) (port_at (turn_of n stride k)) k
+abbrev pub found_worth : ℕ → ℕ → List Entry → ℕ → ℕ
+found_worth from share l at = worth_of (answered l (fid_at at) (address_at (from + at / 16)))
 
-unfoldable pub learn_sum : ℕ → List Entry → ℕ → ℕ → ℕ → ℕ
-learn_sum share l n stride zero = 0
-learn_sum share l n stride (suc k) = plus (learn_sum share l n stride k) (worth_of_mark (marked share (heard_again share l n stride k) (fid_at (turn_of n stride k)) (address_at (turn_of n stride k / 16)) (port_at (turn_of n stride k))))
+-- A learn hears an entry again, at the time of its step.
+abbrev pub learned : ℕ → List Entry → ℕ → ℕ → List Entry
+learned share l at k = after_learn share l (fid_at at) (address_at (at / 16)) (port_at at) k
+
+abbrev pub learned_worth : ℕ → List Entry → ℕ → ℕ
+learned_worth share l at = worth_of_mark (marked share l (fid_at at) (address_at (at / 16)) (port_at at))
+
+-- The set after k of n entries had their turn.
+unfoldable pub set_after : (ℕ → List Entry → ℕ → ℕ → List Entry) → ℕ → List Entry → ℕ → ℕ → ℕ → List Entry
+set_after later share l n stride zero = l
+set_after later share l n stride (suc k) = later share (set_after later share l n stride k) (turn_of n stride k) k
+
+-- The checksum of k entries.
+unfoldable pub sum_of : (ℕ → List Entry → ℕ → ℕ → List Entry) → (ℕ → List Entry → ℕ → ℕ) → ℕ → List Entry → ℕ → ℕ → ℕ → ℕ
+sum_of later worth share l n stride zero = 0
+sum_of later worth share l n stride (suc k) = plus (sum_of later worth share l n stride k) (worth share (set_after later share l n stride k) (turn_of n stride k))

@@ -2,6 +2,9 @@
 #![tactic(auto)]
 
 pub mod c_api;
+mod entries;
+mod kind;
 mod kinds;
+mod load;
 mod task;
 mod work;

@@ -1,10 +1,10 @@
 // A long run of calls by chance, the same ones at two tables, whose answers must agree call by call.
 // Few addresses, few databases and a share of three let every kind of answer come often.
 use crate::calls::{Answer, Call, ask};
+use crate::kinds::{hashed, searched};
 use fault::mark::Mark;
-use hashed::hashed::Hashed;
+use fault::refusal::Refusal;
 use recent::recent::Recent;
-use searched::searched::Searched;
 use std::process::Abort;
 use std::test::Fail;
 use table::entry::Entry;
@@ -36,7 +36,7 @@ fn drawn(dice: u64, now: u64) -> Call {
 }
 
 // How often each kind of answer came.
-#[derive(Clone, Copy)]
+#[derive(Clone, Copy, PartialEq, Eq, Debug, Default, Drop)]
 struct Seen {
     new: u64,
     known: u64,
@@ -56,30 +56,16 @@ fn one_more(count: &mut u64) {
 }
 
 impl Seen {
-    fn nothing() -> Seen {
-        Seen {
-            new: 0,
-            known: 0,
-            moved: 0,
-            full: 0,
-            found: 0,
-            missed: 0,
-            refused: 0,
-            flushes: 0,
-            flushed: 0,
-        }
-    }
-
-    fn count(&mut self, answered: Answer) {
+    fn count(&mut self, answered: Result<Answer, Refusal>) {
         match answered {
-            Answer::Marked(Mark::New) => one_more(&mut self.new),
-            Answer::Marked(Mark::Known) => one_more(&mut self.known),
-            Answer::Marked(Mark::Moved) => one_more(&mut self.moved),
-            Answer::Marked(Mark::Full) => one_more(&mut self.full),
-            Answer::Port(_) => one_more(&mut self.found),
-            Answer::NoPort => one_more(&mut self.missed),
-            Answer::Refused(21) => one_more(&mut self.refused),
-            Answer::Removed(gone) => if gone > 0 {
+            Ok(Answer::Marked(Mark::New)) => one_more(&mut self.new),
+            Ok(Answer::Marked(Mark::Known)) => one_more(&mut self.known),
+            Ok(Answer::Marked(Mark::Moved)) => one_more(&mut self.moved),
+            Ok(Answer::Marked(Mark::Full)) => one_more(&mut self.full),
+            Ok(Answer::Found(Some(_))) => one_more(&mut self.found),
+            Ok(Answer::Found(None)) => one_more(&mut self.missed),
+            Err(Refusal::FidOutOfRange) => one_more(&mut self.refused),
+            Ok(Answer::Removed(gone)) => if gone > 0 {
                 one_more(&mut self.flushes);
                 self.flushed = self.flushed.saturating_add(gone as u64);
             },
@@ -88,30 +74,24 @@ impl Seen {
     }
 }
 
-// Makes one call at both tables.
-fn both<A: Table, B: Table>(a: &mut A, b: &mut B, call: Call) -> (Answer, Answer)
-    requires { (A.Table.sound a.old) × (B.Table.sound b.old) }
-    ensures { (A.Table.sound a.new) × (B.Table.sound b.new) }
-{
-    let first = ask(a, call);
-    (first, ask(b, call))
-}
-
 // The run, and at its end a flush of every database.
-fn run<A: Table, B: Table>(rt: &impl Abort, a: &mut A, b: &mut B) -> Seen
-    requires { (A.Table.sound a.old) × (B.Table.sound b.old) }
-{
-    let mut seen = Seen::nothing();
+fn run<A: Table, B: Table>(rt: &impl Abort, a: &mut A, b: &mut B) -> Seen {
+    let mut seen = Seen::default();
     let mut dice = 0x9e37_79b9_7f4a_7c15;
     for now in 0..CALLS {
         dice = roll(dice);
-        let (answered, other) = both(a, b, drawn(dice, now));
-        assert_eq!(rt; other, answered, "call {now}");
+        let call = drawn(dice, now);
+        let answered = ask(a, call);
+        assert_eq!(rt; ask(b, call), answered, "call {now}");
         seen.count(answered);
     }
     for fid in 1..=16u8 {
-        let (answered, other) = both(a, b, Call::Flush(fid));
-        assert_eq!(rt; other, answered, "the last flush of {fid}");
+        let answered = ask(a, Call::Flush(fid));
+        assert_eq!(rt;
+            ask(b, Call::Flush(fid)),
+            answered,
+            "the last flush of {fid}"
+        );
         seen.count(answered);
     }
     seen
@@ -119,30 +99,26 @@ fn run<A: Table, B: Table>(rt: &impl Abort, a: &mut A, b: &mut B) -> Seen
 
 // The numbers are those of tally/tests/table_counts.rs, which plays the same run at a plain map. Each kind of
 // answer came often, and 790 entries expired: those that were new and were not flushed.
-fn check_counts(rt: &impl Abort, seen: Seen) {
-    assert_eq!(rt; seen.new, 1586, "new");
-    assert_eq!(rt; seen.known, 320, "known");
-    assert_eq!(rt; seen.moved, 277, "moved");
-    assert_eq!(rt; seen.full, 638, "full");
-    assert_eq!(rt; seen.found, 627, "found");
-    assert_eq!(rt; seen.missed, 2195, "missed");
-    assert_eq!(rt; seen.refused, 1427, "refused");
-    assert_eq!(rt; seen.flushes, 366, "flushes");
-    assert_eq!(rt; seen.flushed, 796, "flushed");
-}
+const COUNTS: Seen = Seen {
+    new: 1586,
+    known: 320,
+    moved: 277,
+    full: 638,
+    found: 627,
+    missed: 2195,
+    refused: 1427,
+    flushes: 366,
+    flushed: 796,
+};
 
+// A test for each kind, whose name says which table failed.
 #[test]
 fn searched_and_hashed(rt: HostRuntime) -> Result<(), Fail> {
     let mut few = [Entry::free(); 48];
     let mut many = [Entry::free(); 96];
-    let for_few = searched::check::check(3, &few)?;
-    let for_many = hashed::check::check(3, &many)?;
-    let seen = run(
-        &rt,
-        &mut Searched::new(for_few, &mut few),
-        &mut Hashed::new(for_many, &mut many),
-    );
-    check_counts(&rt, seen);
+    let mut table = searched(3, &mut few)?;
+    let mut other = hashed(3, &mut many)?;
+    assert_eq!(rt; run(&rt, &mut table, &mut other), COUNTS);
     Ok(())
 }
 
@@ -150,13 +126,9 @@ fn searched_and_hashed(rt: HostRuntime) -> Result<(), Fail> {
 fn searched_and_a_recent_list_over_another(rt: HostRuntime) -> Result<(), Fail> {
     let mut few = [Entry::free(); 48];
     let mut others = [Entry::free(); 48];
-    let checked = searched::check::check(3, &few)?;
-    let seen = run(
-        &rt,
-        &mut Searched::new(checked, &mut few),
-        &mut Recent::new(Searched::new(checked, &mut others)),
-    );
-    check_counts(&rt, seen);
+    let mut table = searched(3, &mut few)?;
+    let mut other = Recent::new(searched(3, &mut others)?);
+    assert_eq!(rt; run(&rt, &mut table, &mut other), COUNTS);
     Ok(())
 }
 
@@ -164,13 +136,8 @@ fn searched_and_a_recent_list_over_another(rt: HostRuntime) -> Result<(), Fail> 
 fn searched_and_a_recent_list_over_hashed(rt: HostRuntime) -> Result<(), Fail> {
     let mut few = [Entry::free(); 48];
     let mut many = [Entry::free(); 96];
-    let for_few = searched::check::check(3, &few)?;
-    let for_many = hashed::check::check(3, &many)?;
-    let seen = run(
-        &rt,
-        &mut Searched::new(for_few, &mut few),
-        &mut Recent::new(Hashed::new(for_many, &mut many)),
-    );
-    check_counts(&rt, seen);
+    let mut table = searched(3, &mut few)?;
+    let mut other = Recent::new(hashed(3, &mut many)?);
+    assert_eq!(rt; run(&rt, &mut table, &mut other), COUNTS);
     Ok(())
 }

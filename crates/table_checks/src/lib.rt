@@ -10,6 +10,8 @@ mod by_hand;
 #[cfg(test)]
 mod calls;
 #[cfg(test)]
+mod kinds;
+#[cfg(test)]
 mod making;
 #[cfg(test)]
 mod remembering;

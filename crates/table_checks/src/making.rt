@@ -1,14 +1,17 @@
 // What is asked before a table is made, and what a made table has room for.
 use crate::calls::{Answer, Call, ask};
+use crate::kinds::{hashed, searched};
 use fault::mark::Mark;
 use fault::refusal::Refusal;
 use hashed::hashed::Hashed;
 use searched::searched::Searched;
 use std::process::Abort;
 use std::test::Fail;
-use table::entry::Entry;
+use table::check::check;
+use table::entry::{Entry, Key};
 use table::table::Table;
 
+// By the number, since that is what callers know.
 fn refuses<C: Drop>(rt: &impl Abort, asked: Result<C, Refusal>, number: u8) -> Result<(), Fail> {
     match asked {
         Err(refusal) => {
@@ -22,8 +25,10 @@ fn refuses<C: Drop>(rt: &impl Abort, asked: Result<C, Refusal>, number: u8) -> R
 // A record with something in it, so that it shows where it is altered.
 fn marked() -> Entry {
     Entry {
-        fid: 3,
-        address: [2, 9, 8, 7, 6, 5],
+        key: Key {
+            fid: 3,
+            address: [2, 9, 8, 7, 6, 5],
+        },
         port: 4,
         heard: 77,
     }
@@ -31,9 +36,7 @@ fn marked() -> Entry {
 
 fn check_marked(rt: &impl Abort, records: &[Entry]) {
     for record in records {
-        assert!(rt;
-            record.has_key(3, [2, 9, 8, 7, 6, 5]) && record.port == 4 && record.heard == 77
-        );
+        assert_eq!(rt; *record, marked());
     }
 }
 
@@ -43,20 +46,18 @@ fn numbered(n: u16) -> [u8; 6] {
 }
 
 // Every database takes a share of addresses and no more. Flushing them counts them once more.
-fn holds_its_share<T: Table>(rt: &impl Abort, table: &mut T, share: u16) -> Result<(), Fail>
-    requires { T.Table.sound table.old }
-{
+fn holds_its_share<T: Table>(rt: &impl Abort, table: &mut T, share: u16) -> Result<(), Fail> {
     for fid in 1..=16u8 {
         for n in 0..share {
             let added = ask(table, Call::Learn(fid, numbered(n), 1, 0));
-            assert_eq!(rt; added, Answer::Marked(Mark::New));
+            assert_eq!(rt; added?, Answer::Marked(Mark::New));
         }
         let refused = ask(table, Call::Learn(fid, numbered(share), 1, 0));
-        assert_eq!(rt; refused, Answer::Marked(Mark::Full));
+        assert_eq!(rt; refused?, Answer::Marked(Mark::Full));
     }
     for fid in 1..=16u8 {
         let gone = ask(table, Call::Flush(fid));
-        assert_eq!(rt; gone, Answer::Removed(usize::from(share)));
+        assert_eq!(rt; gone?, Answer::Removed(usize::from(share)));
     }
     Ok(())
 }
@@ -66,33 +67,36 @@ fn holds_its_share<T: Table>(rt: &impl Abort, table: &mut T, share: u16) -> Resu
 fn shares_out_of_range(rt: HostRuntime) -> Result<(), Fail> {
     let records = [Entry::free(); 48];
     for share in [0, 257, 65535] {
-        refuses(&rt, searched::check::check(share, &records), 25)?;
-        refuses(&rt, hashed::check::check(share, &records), 25)?;
-        refuses(&rt, searched::check::check(share, &records[0..0]), 25)?;
-        refuses(&rt, hashed::check::check(share, &records[0..0]), 25)?;
+        refuses(&rt, check::<16>(share, &records), 25)?;
+        refuses(&rt, check::<32>(share, &records), 25)?;
+        refuses(&rt, check::<16>(share, &records[0..0]), 25)?;
+        refuses(&rt, check::<32>(share, &records[0..0]), 25)?;
     }
     Ok(())
 }
 
-// These records are as many as a searched table with this share asks for: one less is refused.
-fn suits_searched(rt: &impl Abort, records: &mut [Entry], share: u16) -> Result<(), Fail> {
+// These records are as many as a table with this share asks for: one less is refused.
+fn asks_for<const RECORDS: u16>(
+    rt: &impl Abort,
+    records: &[Entry],
+    share: u16,
+) -> Result<(), Fail> {
     let size = records.len();
     assert!(rt; size > 0);
-    refuses(rt, searched::check::check(share, &records[0..size - 1]), 27)?;
-    refuses(rt, searched::check::check(share, &records[0..0]), 27)?;
+    refuses(rt, check::<RECORDS>(share, &records[0..size - 1]), 27)?;
+    refuses(rt, check::<RECORDS>(share, &records[0..0]), 27)?;
     check_marked(rt, records);
-    let checked = searched::check::check(share, records)?;
-    holds_its_share(rt, &mut Searched::new(checked, records), share)
+    Ok(())
+}
+
+fn suits_searched(rt: &impl Abort, records: &mut [Entry], share: u16) -> Result<(), Fail> {
+    asks_for::<16>(rt, records, share)?;
+    holds_its_share(rt, &mut searched(share, records)?, share)
 }
 
 fn suits_hashed(rt: &impl Abort, records: &mut [Entry], share: u16) -> Result<(), Fail> {
-    let size = records.len();
-    assert!(rt; size > 0);
-    refuses(rt, hashed::check::check(share, &records[0..size - 1]), 27)?;
-    refuses(rt, hashed::check::check(share, &records[0..0]), 27)?;
-    check_marked(rt, records);
-    let checked = hashed::check::check(share, records)?;
-    holds_its_share(rt, &mut Hashed::new(checked, records), share)
+    asks_for::<32>(rt, records, share)?;
+    holds_its_share(rt, &mut hashed(share, records)?, share)
 }
 
 #[test]
@@ -111,11 +115,9 @@ fn memory_for_hashed_tables(rt: HostRuntime) -> Result<(), Fail> {
 #[test]
 fn records_left_over(rt: HostRuntime) -> Result<(), Fail> {
     let mut records = [marked(); 40];
-    let for_searched = searched::check::check(2, &records)?;
-    holds_its_share(&rt, &mut Searched::new(for_searched, &mut records), 2)?;
+    holds_its_share(&rt, &mut searched(2, &mut records)?, 2)?;
     check_marked(&rt, &records[32..40]);
-    let for_hashed = hashed::check::check(1, &records)?;
-    holds_its_share(&rt, &mut Hashed::new(for_hashed, &mut records), 1)?;
+    holds_its_share(&rt, &mut hashed(1, &mut records)?, 1)?;
     check_marked(&rt, &records[32..40]);
     Ok(())
 }
@@ -124,12 +126,12 @@ fn records_left_over(rt: HostRuntime) -> Result<(), Fail> {
 #[test]
 fn other_memory_than_was_asked_about(rt: HostRuntime) -> Result<(), Fail> {
     let asked_about = [marked(); 96];
-    let for_searched = searched::check::check(3, &asked_about)?;
+    let for_searched = check(3, &asked_about)?;
     holds_its_share(
         &rt,
         &mut Searched::new(for_searched, &mut [marked(); 47]),
         2,
     )?;
-    let for_hashed = hashed::check::check(3, &asked_about)?;
+    let for_hashed = check(3, &asked_about)?;
     holds_its_share(&rt, &mut Hashed::new(for_hashed, &mut [marked(); 95]), 2)
 }

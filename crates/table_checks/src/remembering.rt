@@ -1,14 +1,14 @@
 // Which answers a recent list remembers. No contract says so: only the finds that reach the table below
 // tell, and these are counted here.
 use crate::calls::{Call, ask};
+use crate::kinds::searched;
 use fault::mark::Mark;
 use fault::refusal::Refusal;
 use recent::recent::Recent;
-use searched::searched::Searched;
 use std::cell::Cell;
 use std::process::Abort;
 use std::test::Fail;
-use table::entry::Entry;
+use table::entry::{Entry, Key};
 use table::table::Table;
 
 // A table that counts its finds, and means what the table below it means.
@@ -19,23 +19,23 @@ struct Counting<'a, T: Table> {
 }
 
 impl<'a, T: Table> Table for Counting<'a, T> {
-    ghost entries = { λ s. T.Table.entries s.table };
+    ghost entries = { λ s. T.entries s.table };
 
-    ghost share = { λ s. T.Table.share s.table };
+    ghost share = { λ s. T.share s.table };
 
-    ghost sound = { λ s. T.Table.sound s.table };
+    ghost rising = { λ s. T.rising s.table };
 
-    fn well_formed(&self) {
-        self.table.well_formed();
-    }
+    ghost ranged = { λ s. T.ranged s.table };
 
-    fn find(&mut self, fid: u8, address: [u8; 6]) -> Result<Option<u8>, Refusal> {
+    ghost fair = { λ s. T.fair s.table };
+
+    fn find(&mut self, key: Key) -> Result<Option<u8>, Refusal> {
         self.finds.set(self.finds.get().saturating_add(1));
-        self.table.find(fid, address)
+        self.table.find(key)
     }
 
-    fn learn(&mut self, fid: u8, address: [u8; 6], port: u8, heard: u64) -> Result<Mark, Refusal> {
-        self.table.learn(fid, address, port, heard)
+    fn learn(&mut self, entry: Entry) -> Result<Mark, Refusal> {
+        self.table.learn(entry)
     }
 
     fn expire(&mut self, limit: u64) {
@@ -52,19 +52,13 @@ fn numbered(n: u8) -> [u8; 6] {
 }
 
 // Asks for the addresses from one number up to another.
-fn find_all<T: Table>(table: &mut T, fid: u8, from: u8, to: u8)
-    requires { T.Table.sound table.old }
-    ensures { T.Table.sound table.new }
-{
+fn find_all<T: Table>(table: &mut T, fid: u8, from: u8, to: u8) {
     for n in from..to {
         let _ = ask(table, Call::Find(fid, numbered(n)));
     }
 }
 
-fn remembers_eight<T: Table>(rt: &impl Abort, table: &mut T, finds: &Cell<u32>)
-    requires { T.Table.sound table.old }
-    ensures { T.Table.sound table.new }
-{
+fn remembers_eight<T: Table>(rt: &impl Abort, table: &mut T, finds: &Cell<u32>) {
     find_all(table, 1, 0, 8);
     assert_eq!(rt; finds.get(), 8, "eight pairs for the first time");
     find_all(table, 1, 0, 8);
@@ -79,10 +73,7 @@ fn remembers_eight<T: Table>(rt: &impl Abort, table: &mut T, finds: &Cell<u32>)
 
 // Makes a call, and says how many of the finds for the first four addresses of database 1 reach the
 // table after it.
-fn forgotten_by<T: Table>(table: &mut T, finds: &Cell<u32>, call: Call) -> u32
-    requires { T.Table.sound table.old }
-    ensures { T.Table.sound table.new }
-{
+fn forgotten_by<T: Table>(table: &mut T, finds: &Cell<u32>, call: Call) -> u32 {
     let _ = ask(table, call);
     finds.set(0);
     find_all(table, 1, 0, 4);
@@ -113,13 +104,10 @@ fn forgets_what_may_differ<T: Table>(
     table: &mut T,
     finds: &Cell<u32>,
     calls: &[(Call, u32)],
-) -> Result<(), Fail>
-    requires { T.Table.sound table.old }
-{
-    for i in 0..calls.len() {
-        let (call, expected) = calls[i];
-        let forgotten = forgotten_by(table, finds, call);
-        assert_eq!(rt; forgotten, expected, "call {i}, counted from 0");
+) -> Result<(), Fail> {
+    for (i, (call, expected)) in calls.iter().enumerate() {
+        let forgotten = forgotten_by(table, finds, *call);
+        assert_eq!(rt; forgotten, *expected, "call {i}, counted from 0");
     }
     Ok(())
 }
@@ -128,9 +116,8 @@ fn forgets_what_may_differ<T: Table>(
 fn what_a_recent_list_remembers(rt: HostRuntime) -> Result<(), Fail> {
     let finds = Cell::new(0);
     let mut records = [Entry::free(); 32];
-    let checked = searched::check::check(2, &records)?;
     let mut table = Recent::new(Counting {
-        table: Searched::new(checked, &mut records),
+        table: searched(2, &mut records)?,
         finds: &finds,
     });
     remembers_eight(&rt, &mut table, &finds);

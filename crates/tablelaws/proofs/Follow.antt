@@ -1,12 +1,12 @@
 -- The laws of each call, from what it answers and leaves.
-use Rattle.std.proofs.Common.{◌≡◌, ℕ, ◌+◌, ◌≤◌, Bool, true, false, cond, eqb, ltb, List, [], ◌∷◌, Some, None, Ok, Err, Option, Result, Ordering, Less, Equal, Greater, sym, refl, ap, ◌∙◌, subst, arith}
+use Rattle.std.proofs.Common.{◌≡◌, ℕ, ◌+◌, Bool, true, false, cond, eqb, ltb, List, [], ◌∷◌, Some, None, Ok, Err, Option, Result, Ordering, Less, Equal, Greater, sym, refl, ap, ◌∙◌, subst, arith}
 use Rattle.std.specs.Ordering.{is_lt}
 use Rattle.std.proofs.lemmas.Bool.{and_parts, and_from, ltb-false, eq-eqb, both_ways, true≢false}
-use Rattle.fault.specs.declared.mark.Mark.{Mark}
 use Rattle.fault.specs.declared.mark.Mark.TheVariants.{New, Known, Moved, Full}
 use Rattle.fault.specs.declared.refusal.Refusal.{Refusal}
 use Rattle.fault.specs.declared.refusal.Refusal.TheVariants.{FidOutOfRange}
 use Rattle.table.specs.declared.entry.Entry.{Entry}
+use Rattle.table.specs.declared.entry.Key.{Key}
 use Rattle.table.specs.Entries.{is_fid, new_entry, has_key, lookup, entries_of, count_of}
 use Rattle.table.specs.Rising.{order, insert_by, insert, comes_before, rises}
 use Rattle.table.specs.Calls.{port_of, answered, mark_at, marked, learn_at, after_learn, heard_after, after_expire, flushed, after_flush}
@@ -16,19 +16,19 @@ use Rattle.table.proofs.Records.{key_is, key_of, holds_none, holds_some, count_k
 use Rattle.table.proofs.Rising.{is_less, less_not, before_far, look_insert, count_insert}
 use Rattle.table.proofs.Views.{view_learn, view_flush, view_expire, own_answer, own_mark, own_learn, own_flushed, own_flush, flush_none}
 use Rattle.table.proofs.After.{marked_at, full_at, answer_other}
-use Rattle.tablelaws.specs.Laws.{Finds, is_new, Learns, Expires, Flushes, FoundAfter}
+use Rattle.tablelaws.specs.Laws.{Finds, is_new, Expires, Flushes, FoundAfter, FindLaw, LearnLaw, ExpireLaw, FlushLaw}
 
-pub finds : (l k : List Entry) (f : ℕ) (a : List ℕ) (r : Result (Option ℕ) Refusal) → r ≡ answered l f a → k ≡ l → Finds l k f a r
-finds l k f a r h e = record { answer = h ∙ own_answer f a l; same = e }
+pub finds : FindLaw
+finds l k f a r e h = record { answer = h ∙ own_answer f a l; same = e }
 
-pub expires : (limit : ℕ) (l k : List Entry) → k ≡ after_expire limit l → Expires limit l k
+pub expires : ExpireLaw
 expires limit l k e = record {
   each = λ g. ap (entries_of g) e ∙ view_expire g limit l;
   fewer = λ g. omega (arith, ap (count_of g) e, count_kept (heard_after limit) g l);
 }
 
-pub flushes : (l k : List Entry) (f : ℕ) (r : Result ℕ Refusal) → r ≡ flushed l f → k ≡ after_flush l f → Flushes l k f r
-flushes l k f r h e = record {
+pub flushes : FlushLaw
+flushes l k f r e h = record {
   answer = h ∙ own_flushed l f;
   own = ap (entries_of f) e ∙ own_flush l f;
   empty = λ q. ap (entries_of f) e ∙ flush_none l f q;
@@ -37,34 +37,34 @@ flushes l k f r h e = record {
 
 -- an entry that is written over that of its pair leaves each count
 
-before_none : (e : Entry) (l : List Entry) → comes_before e l ≡ true → lookup l e.fid e.address ≡ None
+before_none : (e : Entry) (l : List Entry) → comes_before e l ≡ true → lookup l e.key.fid e.key.address ≡ None
 before_none e [] h = refl
-before_none e (x ∷ l) h = go (before_none e l (and_parts (is_lt (order e x)) (comes_before e l) h).1) (has_key e.fid e.address x) refl
+before_none e (x ∷ l) h = go (before_none e l (and_parts (is_lt (order e x)) (comes_before e l) h).1) (has_key e.key.fid e.key.address x) refl
   where
-    go : lookup l e.fid e.address ≡ None → (b : Bool) → has_key e.fid e.address x ≡ b → cond b (Some x) (lookup l e.fid e.address) ≡ None
-    go ih true q = let s = key_is e.fid e.address x q in absurd (less_not (order e x) (is_less _ (and_parts (is_lt (order e x)) (comes_before e l) h).0) (key_order e x (sym s.0) (sym s.1)))
+    go : lookup l e.key.fid e.key.address ≡ None → (b : Bool) → has_key e.key.fid e.key.address x ≡ b → cond b (Some x) (lookup l e.key.fid e.key.address) ≡ None
+    go ih true q = let s = key_is e.key.fid e.key.address x q in absurd (less_not (order e x) (is_less _ (and_parts (is_lt (order e x)) (comes_before e l) h).0) (key_order e x (sym s.0) (sym s.1)))
     go ih false q = ih
 
-not_own : (e x : Entry) → order e x ≡ Greater → has_key e.fid e.address x ≡ false
-not_own e x q = go (has_key e.fid e.address x) refl
+not_own : (e x : Entry) → order e x ≡ Greater → has_key e.key.fid e.key.address x ≡ false
+not_own e x q = go (has_key e.key.fid e.key.address x) refl
   where
-    go : (b : Bool) → has_key e.fid e.address x ≡ b → b ≡ false
+    go : (b : Bool) → has_key e.key.fid e.key.address x ≡ b → b ≡ false
     go true k =
-        let s = key_is e.fid e.address x k in
+        let s = key_is e.key.fid e.key.address x k in
         let w = key_order e x (sym s.0) (sym s.1) in
         let z : ◌≡◌ {A = ℕ} 0 1 = cc in absurd (omega arith)
     go false k = refl
 
-count_over : (g : ℕ) (e : Entry) (l : List Entry) → rises l ≡ true → holds l e.fid e.address ≡ true → count_of g (insert e l) ≡ count_of g l
+count_over : (g : ℕ) (e : Entry) (l : List Entry) → rises l ≡ true → holds l e.key.fid e.key.address ≡ true → count_of g (insert e l) ≡ count_of g l
 count_over g e [] r h = absurd (true≢false (sym h))
 count_over g e (x ∷ l) r h = go (count_over g e l) (and_parts (comes_before x l) (rises l) r) (order e x) refl
   where
-    go : (rises l ≡ true → holds l e.fid e.address ≡ true → count_of g (insert e l) ≡ count_of g l) → (comes_before x l ≡ true) × (rises l ≡ true) → (o : Ordering) → order e x ≡ o → count_of g (insert_by o e x l (insert e l)) ≡ count_of g (x ∷ l)
+    go : (rises l ≡ true → holds l e.key.fid e.key.address ≡ true → count_of g (insert e l) ≡ count_of g l) → (comes_before x l ≡ true) × (rises l ≡ true) → (o : Ordering) → order e x ≡ o → count_of g (insert_by o e x l (insert e l)) ≡ count_of g (x ∷ l)
     go ih s Less q =
         let u : comes_before e (x ∷ l) ≡ true = and_from (is_lt (order e x)) (comes_before e l) (ap is_lt q) (before_far e x l q s.0) in
-        absurd (both_ways _ (holds_none (x ∷ l) e.fid e.address (before_none e (x ∷ l) u)) h)
+        absurd (both_ways _ (holds_none (x ∷ l) e.key.fid e.key.address (before_none e (x ∷ l) u)) h)
     go ih s Equal q = ap (λ f. cond (eqb f g) (count_of g l + 1) (count_of g l)) (order_key e x q).0
-    go ih s Greater q = ap (λ n. cond (eqb x.fid g) (n + 1) n) (ih s.1 (sym (ap (λ b. cond b true (holds l e.fid e.address)) (not_own e x q)) ∙ h))
+    go ih s Greater q = ap (λ n. cond (eqb x.key.fid g) (n + 1) n) (ih s.1 (sym (ap (λ b. cond b true (holds l e.key.fid e.key.address)) (not_own e x q)) ∙ h))
 
 count_learned : (share : ℕ) (l : List Entry) (f : ℕ) (a : List ℕ) (p t : ℕ) → rises l ≡ true → count_of f (after_learn share l f a p t) ≡ count_of f l + cond (is_new (marked share l f a p)) 1 0
 count_learned share l f a p t r = elim (is_fid f) as (λ b. count_of f (cond b (learn_at share l (new_entry f a p t) (lookup l f a)) l) ≡ count_of f l + cond (is_new (cond b (Ok (mark_at share (count_of f l) p (lookup l f a))) (Err FidOutOfRange))) 1 0) [ true ↦ at (lookup l f a) refl | false ↦ omega arith ]
@@ -81,8 +81,8 @@ count_learned share l f a p t r = elim (is_fid f) as (λ b. count_of f (cond b (
     at None h = room (ltb (count_of f l) share) h
     at (Some e) h = old (eqb e.port p) (count_over f (new_entry f a p t) l r (holds_some l f a e h))
 
-pub learns : (share : ℕ) (l k : List Entry) (f : ℕ) (a : List ℕ) (p t : ℕ) (r : Result Mark Refusal) → rises l ≡ true → ((g : ℕ) → count_of g l ≤ share) → r ≡ marked share l f a p → k ≡ after_learn share l f a p t → Learns share l k f a p t r
-learns share l k f a p t r up fair h e = record {
+pub learns : LearnLaw
+learns share l k f a p t r e h up fair = record {
   answer = h ∙ own_mark share l f a p;
   own = ap (entries_of f) e ∙ own_learn share l f a p t up;
   others = λ g n. ap (entries_of g) e ∙ view_learn g share l f a p t n;
@@ -116,11 +116,20 @@ found_own share l f a p t = elim (is_fid f) as (λ b. FoundAfter (cond b (Ok (ma
     at None h = room (ltb (count_of f l) share) h
     at (Some e) h = old (eqb e.port p)
 
-pub found_same : (share : ℕ) (l k : List Entry) (f : ℕ) (a : List ℕ) (p t g : ℕ) (b : List ℕ) (r : Result Mark Refusal) (o : Result (Option ℕ) Refusal) → r ≡ marked share l f a p → k ≡ after_learn share l f a p t → o ≡ answered k g b → g ≡ f → b ≡ a → FoundAfter r p o
-found_same share l k f a p t g b r o h e w q s =
-    let o' : o ≡ answered (after_learn share l f a p t) f a = w ∙ ap (λ z. answered z g b) e ∙ ap (λ z. answered (after_learn share l f a p t) z b) q ∙ ap (answered (after_learn share l f a p t) f) s in
-    subst (λ z. FoundAfter z p o) (sym h) (subst (FoundAfter (marked share l f a p) p) (sym o') (found_own share l f a p t))
+-- the same, as the functions' proofs take it: of what a call answers and of the set that it leaves
+
+pub find_follows : (l : List Entry) (f : ℕ) (a : List ℕ) → Finds l l f a (answered l f a)
+find_follows l f a = finds l l f a (answered l f a) refl refl
+
+pub expire_follows : (limit : ℕ) (l : List Entry) → Expires limit l (after_expire limit l)
+expire_follows limit l = expires limit l (after_expire limit l) refl
+
+pub flush_follows : (l : List Entry) (f : ℕ) → Flushes l (after_flush l f) f (flushed l f)
+flush_follows l f = flushes l (after_flush l f) f (flushed l f) refl refl
+
+pub found_same : (share : ℕ) (l : List Entry) (e : Entry) (k : Key) → k ≡ e.key → FoundAfter (marked share l e.key.fid e.key.address e.port) e.port (answered (after_learn share l e.key.fid e.key.address e.port e.heard) k.fid k.address)
+found_same share l e k q = subst (λ z. FoundAfter (marked share l e.key.fid e.key.address e.port) e.port (answered (after_learn share l e.key.fid e.key.address e.port e.heard) z.fid z.address)) (sym q) (found_own share l e.key.fid e.key.address e.port e.heard)
 
 -- any other pair
-pub found_other : (share : ℕ) (l k : List Entry) (f : ℕ) (a : List ℕ) (p t g : ℕ) (b : List ℕ) (o : Result (Option ℕ) Refusal) → k ≡ after_learn share l f a p t → o ≡ answered k g b → has_key g b (new_entry f a p t) ≡ false → o ≡ answered l g b
-found_other share l k f a p t g b o e w n = w ∙ ap (λ z. answered z g b) e ∙ answer_other share l f a p t g b n
+pub found_other : (share : ℕ) (l : List Entry) (e : Entry) (k : Key) → has_key k.fid k.address e ≡ false → answered (after_learn share l e.key.fid e.key.address e.port e.heard) k.fid k.address ≡ answered l k.fid k.address
+found_other share l e k n = answer_other share l e.key.fid e.key.address e.port e.heard k.fid k.address n

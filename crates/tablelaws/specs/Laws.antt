@@ -54,7 +54,7 @@ FoundAfter (Ok Full) p o = o ≡ Ok None
 FoundAfter (Ok Unlearned) p o = ⊥
 FoundAfter (Err e) p o = o ≡ Err e
 
--- The laws themselves, of all sets.
+-- The laws themselves, of all sets. Each is proved in proofs/Follow.antt.
 
 abbrev pub FindLaw : Type 0
 FindLaw = (l k : List Entry) (f : ℕ) (a : List ℕ) (r : Result (Option ℕ) Refusal) → k ≡ l → r ≡ answered l f a → Finds l k f a r

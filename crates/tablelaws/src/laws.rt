@@ -1,91 +1,59 @@
 // Each function makes one or two calls of a table, whichever it is, and its contract has what follows
 // from them: first of all, that filtering databases do not touch one another.
 ghost use Rattle.std.specs.Prelude.{◌≡◌, false};
-ghost use Rattle.table.specs.Calls.{answered};
-ghost use Rattle.table.specs.Entries.{has_key, new_entry};
-ghost use Rattle.tablelaws.specs.Laws.{ExpireLaw, Expires, FindLaw, Finds, FlushLaw, Flushes, FoundAfter, LearnLaw, Learns};
+ghost use Rattle.table.specs.Calls.{after_learn, answered, marked};
+ghost use Rattle.table.specs.Entries.{has_key};
+ghost use Rattle.tablelaws.specs.Laws.{Expires, Finds, Flushes, FoundAfter, Learns};
 
 use fault::mark::Mark;
 use fault::refusal::Refusal;
+use table::entry::{Entry, Key};
 use table::table::Table;
 
-pub fn find<T: Table>(table: &mut T, fid: u8, address: [u8; 6]) -> Result<Option<u8>, Refusal>
-    requires { T.Table.sound table.old }
-    ensures laws { Finds (T.Table.entries table.old) (T.Table.entries table.new) fid address result }
-    ensures sound { T.Table.sound table.new }
+#[tactic(auto, using(crate::proofs::Follow::find_follows))]
+pub fn find<T: Table>(table: &mut T, key: Key) -> Result<Option<u8>, Refusal>
+    ensures { Finds (T.Table.entries table.old) (T.Table.entries table.new) key.fid key.address result }
 {
-    find_law();
-    table.find(fid, address)
+    table.find(key)
 }
 
-pub fn learn<T: Table>(
-    table: &mut T,
-    fid: u8,
-    address: [u8; 6],
-    port: u8,
-    heard: u64,
-) -> Result<Mark, Refusal>
-    requires { T.Table.sound table.old }
-    ensures laws { Learns (T.Table.share table.old) (T.Table.entries table.old) (T.Table.entries table.new) fid address port heard result }
-    ensures sound { T.Table.sound table.new }
+pub fn learn<T: Table>(table: &mut T, entry: Entry) -> Result<Mark, Refusal>
+    ensures { Learns (T.Table.share table.old) (T.Table.entries table.old) (T.Table.entries table.new) entry.key.fid entry.key.address entry.port entry.heard result }
 {
-    learn_law();
-    table.well_formed();
-    table.learn(fid, address, port, heard)
+    learn_law(table, entry);
+    table.learn(entry)
 }
 
+#[tactic(auto, using(crate::proofs::Follow::expire_follows))]
 pub fn expire<T: Table>(table: &mut T, limit: u64)
-    requires { T.Table.sound table.old }
-    ensures laws { Expires limit (T.Table.entries table.old) (T.Table.entries table.new) }
-    ensures sound { T.Table.sound table.new }
+    ensures { Expires limit (T.Table.entries table.old) (T.Table.entries table.new) }
 {
-    expire_law();
     table.expire(limit);
 }
 
+#[tactic(auto, using(crate::proofs::Follow::flush_follows))]
 pub fn flush<T: Table>(table: &mut T, fid: u8) -> Result<usize, Refusal>
-    requires { T.Table.sound table.old }
-    ensures laws { Flushes (T.Table.entries table.old) (T.Table.entries table.new) fid result }
-    ensures sound { T.Table.sound table.new }
+    ensures { Flushes (T.Table.entries table.old) (T.Table.entries table.new) fid result }
 {
-    flush_law();
     table.flush(fid)
 }
 
 // Learns one pair, and then looks for another, which may be the same.
+#[tactic(auto, using(crate::proofs::Follow::found_other, crate::proofs::Follow::found_same))]
 pub fn learn_and_find<T: Table>(
     table: &mut T,
-    fid: u8,
-    address: [u8; 6],
-    port: u8,
-    heard: u64,
-    of: u8,
-    target: [u8; 6],
+    entry: Entry,
+    target: Key,
 ) -> (Result<Mark, Refusal>, Result<Option<u8>, Refusal>)
-    requires { T.Table.sound table.old }
-    ensures same { of ≡ fid → target ≡ address → FoundAfter result.0 port result.1 }
-    ensures other { has_key of target (new_entry fid address port heard) ≡ false → result.1 ≡ answered (T.Table.entries table.old) of target }
-    ensures sound { T.Table.sound table.new }
+    ensures same { target ≡ entry.key → FoundAfter result.0 entry.port result.1 }
+    ensures other { has_key target.fid target.address entry ≡ false → result.1 ≡ answered (T.Table.entries table.old) target.fid target.address }
 {
-    let mark = table.learn(fid, address, port, heard);
-    let found = table.find(of, target);
+    let mark = table.learn(entry);
+    let found = table.find(target);
     (mark, found)
 }
 
-// These do nothing: their contracts are the laws, of all sets.
-
-fn find_law()
-    ensures { FindLaw }
-{}
-
-fn learn_law()
-    ensures { LearnLaw }
-{}
-
-fn expire_law()
-    ensures { ExpireLaw }
-{}
-
-fn flush_law()
-    ensures { FlushLaw }
+// Does nothing: its contract is the law of learn at this table.
+fn learn_law<T: Table>(table: &T, entry: Entry)
+    ensures { let share = T.Table.share table.now in let l = T.Table.entries table.now in let k = entry.key in Learns share l (after_learn share l k.fid k.address entry.port entry.heard) k.fid k.address entry.port entry.heard (marked share l k.fid k.address entry.port) }
 {}

@@ -1,6 +1,7 @@
-use Rattle.std.proofs.Common.{◌≡◌, ◌++◌, map, take, drop}
-use Rattle.recent.specs.Remembered.{left}
+use Rattle.std.proofs.Common.{◌≡◌, ◌++◌, Bool, map, take, drop}
+use Rattle.recent.specs.declared.remembered.Remembered.{Remembered}
+use Rattle.recent.specs.Remembered.{Computes, left}
 use Rattle.recent.proofs.memory.forget.Given as goal
 
 abbrev pub invariant-loop-slot : goal.invariant-loop-slot
-invariant-loop-slot l = l.slots ≡ map (left l.change) (take l.slot-index l.initial.slots) ++ drop l.slot-index l.initial.slots
+invariant-loop-slot g l = (test : Remembered → Bool) → Computes g.F.Fn l.fn.touched test → l.slots ≡ map (left test) (take l.slot-index l.initial.slots) ++ drop l.slot-index l.initial.slots

@@ -1,9 +1,12 @@
+use Rattle.std.proofs.Common.{arith, ap, ◌∙◌, length, ◌<◌, set}
+use Rattle.std.proofs.lemmas.List.{get_or_default}
+use Rattle.std.proofs.lemmas.List.Edits.{map_over_more}
 use Rattle.slots.specs.Sweep.{heard_later}
-use Rattle.slots.proofs.Swept.{over_more, over_all}
 use Rattle.slots.proofs.sweep.sweep.Goals as goal
 
-pub loop-at-preserved : goal.loop-at-preserved
-loop-at-preserved c = over_more (heard_later c.args.limit) _ _ _ _ _ c.loop-at.auto.records c.loop-at-test.true c.loop-at.invariant c.sift.ensures
-
-pub returns : goal.returns
-returns c = over_all (heard_later c.args.limit) _ _ _ c.loop-at-test.false c.loop-at.invariant
+pub loop-record-preserved : goal.loop-record-preserved
+loop-record-preserved c =
+    let ys = c.loop-record.records in
+    let i = c.loop-record.record-index in
+    let within : i < length ys = omega arith in
+    ap (set ys i) c.sift.ensures ∙ map_over_more (heard_later c.args.limit) _ ys i _ c.loop-record-test.true c.loop-record.invariant (get_or_default ys i _ _ within)

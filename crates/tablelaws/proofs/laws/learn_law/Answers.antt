@@ -1,5 +1,6 @@
+use Rattle.std.proofs.Common.{refl}
 use Rattle.tablelaws.proofs.Follow.{learns}
 use Rattle.tablelaws.proofs.laws.learn_law.Goals as goal
 
 pub returns : goal.returns
-returns c = λ share l k f a p t r e h up fair. learns share l k f a p t r up fair h e
+returns g c = learns _ _ _ _ _ _ _ _ refl refl (g.met.T.Table.rising c.args.table.now) (g.met.T.Table.fair c.args.table.now)

@@ -1,6 +1,7 @@
-use Rattle.std.proofs.Common.{◌≡◌}
-use Rattle.hashed.specs.Layout.{Laid, SweptTo}
+use Rattle.std.proofs.Common.{◌≡◌, filter}
+use Rattle.table.specs.Records.{held_of}
+use Rattle.hashed.proofs.Calls.{spared_to}
 use Rattle.hashed.proofs.hashed.HashedTable.expire.Given as goal
 
 abbrev pub invariant-loop-row : goal.invariant-loop-row
-invariant-loop-row l = Laid l.self × (l.self.share ≡ l.initial.self.share) × SweptTo l.initial.self.share l.limit l.row l.initial.self.records.now l.self.records.now
+invariant-loop-row l = record { share : l.self.share ≡ l.initial.self.share; swept : held_of l.self.records.now ≡ filter (spared_to l.limit l.row) (held_of l.initial.self.records.now) }

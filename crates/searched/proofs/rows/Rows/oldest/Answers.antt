@@ -1,15 +1,13 @@
-use Rattle.std.proofs.Common.{arith}
-use Rattle.std.proofs.lemmas.List.{at_drop_all}
-use Rattle.searched.specs.Records.{oldest_of, taken}
-use Rattle.searched.proofs.Turns.{oldest_turn}
-use Rattle.searched.proofs.Oldest.{oldest_most}
+use Rattle.std.proofs.Common.{rules, sym, ap, ◌∙◌}
+use Rattle.std.proofs.lemmas.Iterator.{YieldsList-from_map, YieldsList-from_slice}
+use Rattle.std.proofs.lemmas.Iterator.Adapters.{option_map_id}
+use Rattle.std.proofs.lemmas.Iterator.Consumers.{YieldsList-at, min_from_yields_List}
+use Rattle.std.specs.Option.{unwrap_or}
+use Rattle.table.specs.declared.entry.Entry.{Entry}
+use Rattle.searched.specs.Records.{taken}
+use Rattle.searched.proofs.Oldest.{oldest_least}
 use Rattle.searched.proofs.rows.Rows.oldest.Goals as goal
 
-pub loop-entry-init : goal.loop-entry-init
-loop-entry-init c = (omega (arith, oldest_most (taken c.args.self.now)), omega arith)
-
-pub loop-entry-preserved : goal.loop-entry-preserved
-loop-entry-preserved c = (oldest_turn _ _ _ _ _ _ c.loop-entry-test.true c.min-least.ensures c.loop-entry.invariant.0, omega arith)
-
 pub returns : goal.returns
-returns c = omega (arith, at_drop_all oldest_of (taken c.args.self.now) c.loop-entry.entry-index c.loop-entry-test.false, c.loop-entry.invariant.0, c.loop-entry.invariant.1)
+returns c = oldest_least _ _ c.unwrap_or.type_inv (c.unwrap_or.ensures ∙ ap (λ o. unwrap_or o 18446744073709551615) (sym (option_map_id _) ∙ min_from_yields_List c.map.result c.min.result c.min.ensures.ran
+    (YieldsList-from_map _ (λ (e : Entry). e.heard) (YieldsList-at c.map.ensures.source (YieldsList-from_slice (taken c.args.self.now) (cc))) c.map.ensures.closure (λ x r q k. search rules))))

@@ -1,14 +1,15 @@
-use Rattle.std.proofs.Common.{◌<◌, length, sym, ap, ◌∙◌, arith}
-use Rattle.searched.specs.declared.rows.Rows.{Rows}
-use Rattle.searched.specs.Records.{passes}
-use Rattle.searched.proofs.Places.{keeps, skips}
+use Rattle.std.proofs.Common.{◌<◌, length, sym, ◌∙◌, arith}
+use Rattle.std.proofs.lemmas.List.{get_or_default}
+use Rattle.std.proofs.lemmas.List.Filters.{FiltersInPlace-more_set, FiltersInPlace-more_no}
 use Rattle.searched.proofs.rows.Rows.retain.Goals as goal
-use Rattle.searched.proofs.rows.Rows.retain.Goals.{then-passes, else-passes}
+use Rattle.searched.proofs.rows.Rows.retain.Goals.{then-keep, else-keep}
 
 pub loop-i-preserved : goal.loop-i-preserved
-loop-i-preserved c =
+loop-i-preserved g c =
     let lt : c.loop-i.i < length c.loop-i.self.all.now = omega arith in
-    elim c.if-passes.branch [
-      | then-passes w ↦ (keeps (passes c.args.keep) _ _ _ _ _ _ _ c.loop-i.invariant.0 lt (sym c.passes.ensures ∙ w.if-passes.true) (ap (λ (s : Rows). s.all.now) w.self-is) w.k-is, ap (λ (s : Rows). s.used) w.self-is ∙ c.loop-i.invariant.1)
-      | else-passes w ↦ (skips (passes c.args.keep) _ _ _ _ _ _ _ c.loop-i.invariant.0 lt (sym c.passes.ensures ∙ w.if-passes.false) (ap (λ (s : Rows). s.all.now) w.self-is) w.k-is, ap (λ (s : Rows). s.used) w.self-is ∙ c.loop-i.invariant.1)
+    let test = c.requires.1.1 _ _ c.keep.ensures in
+    let read = get_or_default c.loop-i.self.all.now c.loop-i.i _ _ lt in
+    elim c.if-keep.branch [
+      | then-keep w ↦ rw (w.self-is, w.kept-is) (record { used = c.loop-i.invariant.used; filters = FiltersInPlace-more_set c.loop-i.invariant.filters lt (sym test ∙ w.if-keep.true) read })
+      | else-keep w ↦ rw (w.self-is, w.kept-is) (record { used = c.loop-i.invariant.used; filters = FiltersInPlace-more_no c.loop-i.invariant.filters lt (sym test ∙ w.if-keep.false) read })
     ]

@@ -1,12 +1,13 @@
-use Rattle.std.proofs.Common.{sym, ap, ◌∙◌}
+use Rattle.std.proofs.Common.{List, Some, None, get_or, sym, ap, ◌∙◌}
+use Rattle.table.specs.declared.entry.Entry.{Entry}
+use Rattle.table.specs.Entries.{free_entry}
 use Rattle.table.specs.Calls.{port_of}
-use Rattle.table.proofs.Rising.{look_rising}
 use Rattle.searched.specs.Records.{taken}
-use Rattle.searched.proofs.Places.{found_at, missed}
+use Rattle.searched.proofs.Places.{looked}
 use Rattle.searched.proofs.searched.Searched.port.Goals as goal
 
-pub returns-then-at-self : goal.returns-then-at-self
-returns-then-at-self c = sym (ap port_of (look_rising (taken c.args.self.now.rows) c.args.fid c.args.address ∙ found_at _ _ _ _ _ _ c.requires.sits c.place-at.ensures c.if-at-self.true))
+pub returns-in_err-at : goal.returns-in_err-at
+returns-in_err-at c = c.from_residual.ensures ∙ sym (ap port_of (looked (taken c.args.self.now.rows) c.args.key.fid c.args.key.address free_entry None (sym c.in_err-at.was ∙ c.place.ensures)))
 
-pub returns-else-at-self : goal.returns-else-at-self
-returns-else-at-self c = sym (ap port_of (look_rising (taken c.args.self.now.rows) c.args.fid c.args.address ∙ missed _ _ _ _ _ c.requires.sits c.place-at.ensures c.if-at-self.false))
+pub returns : goal.returns
+returns c = ap (λ (l : List Entry). port_of (Some (get_or l c.in_ok-at.at _))) c.entries.ensures ∙ sym (ap port_of (looked (taken c.args.self.now.rows) c.args.key.fid c.args.key.address _ (Some c.in_ok-at.at) (sym c.in_ok-at.was ∙ c.place.ensures)))

@@ -1,41 +1,37 @@
-use Rattle.std.proofs.Common.{Some, sym, refl, ap, ◌∙◌, arith}
-use Rattle.std.proofs.lemmas.List.{length-set}
+use Rattle.std.proofs.Common.{List, Some, None, get_or, sym, ap, ◌∙◌, arith}
+use Rattle.table.specs.declared.entry.Entry.{Entry}
+use Rattle.table.specs.Entries.{free_entry}
+use Rattle.table.specs.Records.{Orderly}
 use Rattle.table.specs.Rising.{rising}
-use Rattle.table.proofs.Records.{holds_some, orderly_written}
-use Rattle.table.proofs.Rising.{look_rising, rising_written}
+use Rattle.table.proofs.Records.{orderly_written}
+use Rattle.searched.specs.Sets.{renewed}
 use Rattle.searched.specs.Records.{taken}
-use Rattle.searched.specs.Sound.{renewed}
-use Rattle.searched.proofs.Places.{found_at, missed, written_at}
 use Rattle.searched.proofs.Oldest.{oldest_written}
+use Rattle.searched.specs.Sets.{orderly}
+use Rattle.searched.proofs.Places.{looked, written_at, renewed_at}
 use Rattle.searched.proofs.searched.Searched.refresh.Goals as goal
 
-pub returns-then-at-self : goal.returns-then-at-self
-returns-then-at-self c =
-    let l = taken c.args.self.now.rows in
+pub returns-in_err-at-clause-answer : goal.returns-in_err-at-clause-answer
+returns-in_err-at-clause-answer c = let e = c.args.entry in c.from_residual.ensures ∙ sym (ap (λ o. renewed o e.port) (looked (taken c.args.self.now.rows) e.key.fid e.key.address free_entry None (sym c.in_err-at.was ∙ c.place.ensures)))
+
+pub invariant_of-self : goal.invariant_of-self
+invariant_of-self c =
+    let s = c.args.self.now in
     let e = c.args.entry in
+    let w = c.write.ensures.later ∙ written_at (taken s.rows) e.key.fid e.key.address e.port e.heard c.in_ok-at.at (sym c.in_ok-at.was ∙ c.place.ensures) in
+    let o : Orderly s.share (taken c.write.new.self) = orderly_written s.share (taken s.rows) (taken c.write.new.self) e.key.fid e.key.address e.port e.heard (orderly s) w in
     record {
-      answer = sym (ap (λ o. renewed o e.port) (look_rising l e.fid e.address ∙ missed _ _ _ _ _ c.requires.sits c.place-at.ensures c.if-at-self.true));
-      later = refl;
-      share = refl;
-      sound = c.requires;
+      room = omega (arith, c.write.ensures.room, s.room);
+      ranged = o.ranged;
+      apart = o.apart;
+      fair = o.fair;
+      dated = oldest_written (taken s.rows) (taken c.write.new.self) e.key.fid e.key.address e.port e.heard _ _ w s.dated c.min-self.ensures;
     }
 
-pub returns : goal.returns
-returns c =
-    let s = c.args.self.now in
-    let l = taken s.rows in
+pub returns-clause-answer : goal.returns-clause-answer
+returns-clause-answer c =
     let e = c.args.entry in
-    let at = found_at s.rows.all.now s.rows.used c.place-at.result e.fid e.address _ c.requires.sits c.place-at.ensures c.if-at-self.false in
-    let w = written_at s.rows.all.now s.rows.used c.place-at.result e.fid e.address e.port e.heard c.requires.sits c.place-at.ensures c.if-at-self.false in
-    let n = length-set s.rows.all.now c.place-at.result e in
-    record {
-      answer = ap Some c.renewal.ensures ∙ sym (ap (λ o. renewed o e.port) (look_rising l e.fid e.address ∙ at));
-      later = ap rising w ∙ rising_written l e.fid e.address e.port e.heard (holds_some l e.fid e.address _ at);
-      share = refl;
-      sound = record {
-        sits = omega (arith, n, c.requires.sits);
-        room = omega (arith, n, c.requires.room);
-        orderly = orderly_written _ l _ e.fid e.address e.port e.heard c.requires.orderly w;
-        dated = oldest_written l _ e.fid e.address e.port e.heard _ _ w c.requires.dated c.min-self.ensures;
-      };
-    }
+    ap Some c.again_at-mark.ensures ∙ ap (λ (l : List Entry). renewed (Some (get_or l c.in_ok-at.at _)) e.port) c.entries.ensures ∙ sym (ap (λ o. renewed o e.port) (looked (taken c.args.self.now.rows) e.key.fid e.key.address _ (Some c.in_ok-at.at) (sym c.in_ok-at.was ∙ c.place.ensures)))
+
+pub returns-clause-later : goal.returns-clause-later
+returns-clause-later c = let e = c.args.entry in ap rising c.write.ensures.later ∙ renewed_at (taken c.args.self.now.rows) e.key.fid e.key.address e.port e.heard c.in_ok-at.at (sym c.in_ok-at.was ∙ c.place.ensures)

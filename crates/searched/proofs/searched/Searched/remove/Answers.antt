@@ -1,21 +1,22 @@
-use Rattle.std.proofs.Common.{refl, arith}
+use Rattle.std.proofs.Common.{arith}
+use Rattle.table.specs.Records.{Orderly}
 use Rattle.table.proofs.Records.{orderly_kept}
 use Rattle.table.proofs.Implement.{kept_is}
-use Rattle.searched.specs.Records.{passes, taken}
+use Rattle.searched.specs.Records.{taken}
+use Rattle.searched.specs.Sets.{orderly}
 use Rattle.searched.proofs.searched.Searched.remove.Goals as goal
 
-pub returns : goal.returns
-returns c =
-    let l = taken c.args.self.now.rows in
-    let e = c.retain.ensures.later in
+pub invariant_of-self : goal.invariant_of-self
+invariant_of-self g c =
+    let s = c.args.self.now in
+    let o : Orderly s.share (taken c.retain.new.self) = orderly_kept s.share g.test (taken s.rows) (taken c.retain.new.self) (orderly s) c.retain.ensures.later in
     record {
-      later = kept_is _ (passes c.args.keep) l _ c.requires.orderly e;
-      share = refl;
-      oldest = c.oldest-self.ensures;
-      sound = record {
-        sits = c.retain.ensures.sits;
-        room = omega (arith, c.retain.ensures.room, c.requires.room);
-        orderly = orderly_kept _ (passes c.args.keep) l _ c.requires.orderly e;
-        dated = omega (arith, c.oldest-self.ensures);
-      };
+      room = omega (arith, c.retain.ensures.room, s.room);
+      ranged = o.ranged;
+      apart = o.apart;
+      fair = o.fair;
+      dated = omega (arith, c.oldest-self.ensures);
     }
+
+pub returns-clause-later : goal.returns-clause-later
+returns-clause-later g c = kept_is _ g.test (taken c.args.self.now.rows) (taken c.retain.new.self) (orderly c.args.self.now) c.retain.ensures.later

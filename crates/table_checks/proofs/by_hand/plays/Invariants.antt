@@ -1,4 +1,0 @@
-use Rattle.table_checks.proofs.by_hand.plays.Given as goal
-
-abbrev pub invariant-loop-i : goal.invariant-loop-i
-invariant-loop-i g l = g.T.Table.sound l.table

@@ -1,0 +1,17 @@
+// The two tables that keep records, empty: what their check asks is asked first. Two functions and not one
+// that takes the making, since the bound of a closure may not name a const parameter.
+use fault::refusal::Refusal;
+use hashed::hashed::Hashed;
+use searched::searched::Searched;
+use table::check::check;
+use table::entry::Entry;
+
+pub fn searched(share: u16, records: &mut [Entry]) -> Result<Searched<'_>, Refusal> {
+    let checked = check(share, records)?;
+    Ok(Searched::new(checked, records))
+}
+
+pub fn hashed(share: u16, records: &mut [Entry]) -> Result<Hashed<'_>, Refusal> {
+    let checked = check(share, records)?;
+    Ok(Hashed::new(checked, records))
+}
