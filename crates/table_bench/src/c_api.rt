@@ -5,15 +5,15 @@ ghost use Rattle.table_bench.specs.Work.{found_worth, learned, learned_worth, un
 
 use crate::kind::Kind;
 use crate::kinds::by_kind;
-use crate::load::Load;
 use crate::task::{Find, Learn, Task};
+use crate::work::Work;
 
-// No kind has another number: nothing is done then, and the answer is 0.
-fn by_number<W: Task>(kind: u32, task: &W, load: u32, rounds: u32) -> u64
-    ensures { result ≡ timed kind (performed (W.later task.now) (W.worth task.now) (entries_for load) rounds) }
+// No kind has another number: nothing is done then, and the answer is 0, since callers in C get a number.
+fn by_number<W: Task>(kind: u32, work: &Work<W>) -> u64
+    ensures { result ≡ timed kind (performed (W.later work.now.task) (W.worth work.now.task) work.now.load.entries work.now.rounds) }
 {
     match Kind::try_from(kind) {
-        Ok(kind) => by_kind(kind, task, Load::each(load), rounds),
+        Ok(kind) => by_kind(kind, work),
         Err(_) => 0,
     }
 }
@@ -25,7 +25,7 @@ fn by_number<W: Task>(kind: u32, task: &W, load: u32, rounds: u32) -> u64
 pub extern "C" fn bridge_bench_find(kind: u32, load: u32, from: u16, rounds: u32) -> u64
     ensures { result ≡ timed kind (performed unaltered (found_worth from) (entries_for load) rounds) }
 {
-    by_number(kind, &Find { from }, load, rounds)
+    by_number(kind, &Work::new(Find { from }, load, rounds))
 }
 
 // Fills a table likewise, and learns every address again at its port. Answers how often it was known.
@@ -33,5 +33,5 @@ pub extern "C" fn bridge_bench_find(kind: u32, load: u32, from: u16, rounds: u32
 pub extern "C" fn bridge_bench_learn(kind: u32, load: u32, rounds: u32) -> u64
     ensures { result ≡ timed kind (performed learned learned_worth (entries_for load) rounds) }
 {
-    by_number(kind, &Learn, load, rounds)
+    by_number(kind, &Work::new(Learn, load, rounds))
 }

@@ -5,7 +5,7 @@ use Rattle.table_bench.proofs.work.go_through.Goals as goal
 
 pub loop-before-init : goal.loop-before-init
 unfolding set_after sum_of turn_of
-loop-before-init g c = record { set = refl; share = refl; turn = refl; sum = refl; below = omega (arith, c.args.load.some) }
+loop-before-init g c = record { set = refl; share = refl; turn = refl; sum = refl; below = omega (arith, c.args.work.now.load.some) }
 
 pub loop-before-preserved : goal.loop-before-preserved
 loop-before-preserved g c =
