@@ -1,5 +1,6 @@
 // The worked examples, proved of the definitions that the contracts cite. A private function states the
-// table first, and is proved by an answer, since no tactic computes all of it. The premise is stated alike.
+// table first, and is proved by an answer, since no tactic computes all of it. The premise keeps to the
+// same form, so that each public function names what it shows by a call.
 #![tactic(auto)]
 
 ghost use Rattle.std.specs.Prelude.{◌≡◌, true, length};

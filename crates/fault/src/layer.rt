@@ -12,7 +12,7 @@ pub enum Layer {
 }
 
 impl Layer {
-    // The number by which callers know the layer.
+    // The number by which callers know the layer. No `From`, as for a refusal.
     pub fn number(self) -> u8
         ensures { result ≡ layer_number self }
     {

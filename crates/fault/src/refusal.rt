@@ -132,7 +132,7 @@ impl Refusal {
         }
     }
 
-    // The layer that refused.
+    // The layer that refused. By the number, as the rule says it: by case this would be a list of eleven.
     pub fn layer(self) -> Layer
         ensures { result ≡ (told self).layer }
     {
@@ -144,7 +144,7 @@ impl Refusal {
         }
     }
 
-    // The place in the frame that the refusal is about.
+    // The place in the frame that the refusal is about; 0, as callers know it, where it is about none.
     pub fn place(self) -> usize
         ensures { result ≡ (told self).place }
     {

@@ -25,10 +25,10 @@ pub struct Hashed<'a> {
     records: &'a mut [Entry],
     bounds: [Bounds; 16],
     share: usize,
-    ghost small: { share ≤ 256 },
-    ghost long: { length records.now ≡ 32 * share },
-    ghost laid: { Laid share records.now bounds } by { Prim.hlevel props },
-    ghost orderly: { Orderly share (held_of records.now) } by { Prim.hlevel props },
+    pub ghost small: { share ≤ 256 },
+    pub ghost long: { length records.now ≡ 32 * share },
+    pub ghost laid: { Laid share records.now bounds } by { Prim.hlevel props },
+    pub ghost orderly: { Orderly share (held_of records.now) } by { Prim.hlevel props },
 }
 
 impl<'a> Hashed<'a> {

@@ -1,5 +1,5 @@
 // The calls on the records of one filtering database. Records and bounds are lent side by side: `port_of`
-// reads them and `learn` writes them, so a struct of both would be needed twice.
+// is lent them to read and `learn` to write, so a struct of both would have to be declared twice.
 ghost use Rattle.std.specs.Prelude.{◌≡◌, ◌*◌, true, length, nat_lt};
 ghost use Rattle.table.specs.Entries.{lookup};
 ghost use Rattle.table.specs.Records.{distinct, held_of};
@@ -20,7 +20,7 @@ pub fn port_of(records: &[Entry], bounds: Bounds, key: Key) -> Option<u8>
     place(records, bounds.reach, key).map(|spot| records[spot.at].port)
 }
 
-// Whether the database may have an entry more.
+// Whether the database may have an entry more. By itself, so that what it promises stands in a clause.
 fn has_room(bounds: Bounds, share: usize) -> bool
     ensures { result ≡ nat_lt bounds.held share }
 {

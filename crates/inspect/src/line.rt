@@ -43,7 +43,7 @@ impl<T: Drop> From<AllocFailed<T>> for LineError {
     }
 }
 
-// What one character does.
+// What one character does. An enum and no closures, since the definition of a line goes by these steps.
 #[derive(Clone, Copy, PartialEq, Eq, Debug, Drop)]
 pub enum Step {
     Pass,

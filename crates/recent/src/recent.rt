@@ -17,8 +17,8 @@ pub struct Recent<T: Table> {
     // The slot that is written next.
     next: u8,
     // Each remembered answer is what the table below would answer.
-    ghost right: { Right (T.Table.entries table) slots } by { Right-prop (T.Table.entries table) slots },
-    ghost below: { next < 8 },
+    pub ghost right: { Right (T.entries table) slots } by { Right-prop (T.entries table) slots },
+    pub ghost below: { next < 8 },
 }
 
 impl<T: Table> Recent<T> {
@@ -37,9 +37,9 @@ impl<T: Table> Recent<T> {
 }
 
 impl<T: Table> Table for Recent<T> {
-    ghost entries = { λ s. T.Table.entries s.table };
+    ghost entries = { λ s. T.entries s.table };
 
-    ghost share = { λ s. T.Table.share s.table };
+    ghost share = { λ s. T.share s.table };
 
     #[tactic(auto, using(crate::proofs::Rights::remembers))]
     fn find(&mut self, key: Key) -> Result<Option<u8>, Refusal> {
@@ -71,9 +71,9 @@ impl<T: Table> Table for Recent<T> {
         Ok(gone)
     }
 
-    ghost rising = { λ s. T.Table.rising s.table };
+    ghost rising = { λ s. T.rising s.table };
 
-    ghost ranged = { λ s. T.Table.ranged s.table };
+    ghost ranged = { λ s. T.ranged s.table };
 
-    ghost fair = { λ s. T.Table.fair s.table };
+    ghost fair = { λ s. T.fair s.table };
 }

@@ -1,8 +1,9 @@
 // The laws over whole runs. Each public function carries one; how it is proved stands in proofs/, and
 // there is nothing to compute but the answer that it holds.
 //
-// A private function states each law first, and is proved by an answer: no tactic finds Conservation
-// and Pairing, even where it is handed their proofs.
+// Each law has a public function of its own, by whose name pages cite it. A private function states it
+// first, and is proved by an answer: no tactic finds Conservation and Pairing, even where it is handed
+// their proofs, and the other three keep to the same form.
 ghost use Rattle.std.specs.Prelude.{◌≡◌, true};
 ghost use Rattle.rules.specs.Egress.{ClassBelow};
 ghost use Rattle.rules.specs.Laws.{Conservation, Draining, Isolation, Pairing};

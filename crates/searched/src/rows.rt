@@ -36,7 +36,8 @@ impl<'a> Rows<'a> {
         self.entries().iter().filter(|e| e.key.fid == fid).count()
     }
 
-    // When the entry that was heard longest ago was heard, or the end of time where there is none.
+    // When the entry that was heard longest ago was heard. Where there is none, the end of time is as true a
+    // bound, and no stand-in.
     pub(crate) fn oldest(&self) -> u64
         ensures { result ≡ oldest_of (taken self.now) }
     {

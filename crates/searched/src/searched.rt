@@ -19,11 +19,11 @@ pub struct Searched<'a> {
     // No entry was heard before this, so that `expire` need not look where nothing is due. It is a bound,
     // and with no entry the end of time is one: an Option would only add a case to each `min`.
     oldest: u64,
-    ghost room: { 16 * share ≤ length rows.all.now },
-    ghost ranged: { fids_in_range (taken rows) ≡ true },
-    ghost apart: { distinct (taken rows) ≡ true },
-    ghost fair: { (f : ℕ) → count_of f (taken rows) ≤ share },
-    ghost dated: { oldest ≤ oldest_of (taken rows) },
+    pub ghost room: { 16 * share ≤ length rows.all.now },
+    pub ghost ranged: { fids_in_range (taken rows) ≡ true },
+    pub ghost apart: { distinct (taken rows) ≡ true },
+    pub ghost fair: { (f : ℕ) → count_of f (taken rows) ≤ share },
+    pub ghost dated: { oldest ≤ oldest_of (taken rows) },
 }
 
 impl<'a> Searched<'a> {

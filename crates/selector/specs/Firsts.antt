@@ -1,5 +1,5 @@
 -- The first class of an order that a set holds: where it stands in the order, and when there is none.
-use Rattle.std.specs.Prelude.{◌≡◌, ℕ, ◌<◌, Bool, true, false, List, length, Some, None, Option, slice_index, refl}
+use Rattle.std.specs.Prelude.{◌≡◌, ℕ, ◌<◌, Bool, true, false, List, length, Some, None, Option, ◌≢◌, slice_index, refl}
 use Rattle.std.specs.List.{position_or_len}
 use Rattle.std.proofs.Common.{sym, ap, ◌∙◌, arith}
 use Rattle.std.proofs.Math.Nat.{lt_of_not-le}
@@ -39,8 +39,11 @@ first_none order held e i l =
     let past : i < place = lt_of_not-le (λ h. none-some _ (sym none ∙ slice_get-get_or order place 0 (omega arith))) in
     fails_before_first (holds held) order i 0 past
 
+pub none_since : (o : Option ℕ) → ((class : ℕ) → o ≢ Some class) → o ≡ None
+none_since None h = refl
+none_since (Some class) h = absurd (h class refl)
+
 -- a choice that is held wherever there is one is none of an empty set
 pub none_chosen : (choice : Option ℕ) (held : List Bool) → ((class : ℕ) → choice ≡ Some class → (class < 8) × (holds held class ≡ true)) → NoneHeld held → choice ≡ None
-none_chosen None held h none = refl
-none_chosen (Some class) held h none =
-    let chosen = h class refl in absurd (both_ways (holds held class) (none class chosen.0) chosen.1)
+none_chosen choice held h none =
+    none_since choice (λ class e. let chosen = h class e in both_ways (holds held class) (none class chosen.0) chosen.1)

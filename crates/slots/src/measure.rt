@@ -16,7 +16,7 @@ pub struct Bounds {
 }
 
 impl Bounds {
-    // The bounds of a stretch that has no entry.
+    // The bounds of a stretch that has no entry. No `Default`, as the end of time is no number's default.
     pub fn empty() -> Bounds
         ensures { result ≡ empty_bounds }
     {

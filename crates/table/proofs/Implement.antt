@@ -16,11 +16,6 @@ fair_rising share l o f = omega (arith, count_rising f l o.apart, o.fair f)
 pub ranged_rising : (share : ℕ) (l : List Entry) → Orderly share l → fids_in_range (rising l) ≡ true
 ranged_rising share l o = range_rising l o.ranged
 
--- find
-
-pub find_is : (l : List Entry) (f : ℕ) (a : List ℕ) (o : Option Entry) → is_fid f ≡ true → lookup l f a ≡ o → Ok (port_of o) ≡ answered (rising l) f a
-find_is l f a o r e = grind (arith, look_rising l f a)
-
 -- learn
 
 pub mark_is : (share : ℕ) (l : List Entry) (f : ℕ) (a : List ℕ) (p : ℕ) (o : Option Entry) (m : Mark) → Orderly share l → is_fid f ≡ true → lookup l f a ≡ o → mark_at share (count_of f l) p o ≡ m → Ok m ≡ marked share (rising l) f a p

@@ -39,9 +39,6 @@ holds_some l f a e h = holds_is l f a ∙ ap is_some h
 pub holds_none : (l : List Entry) (f : ℕ) (a : List ℕ) → lookup l f a ≡ None → holds l f a ≡ false
 holds_none l f a h = holds_is l f a ∙ ap is_some h
 
-pub holds_split : (k x : Bool) → cond k true x ≡ false → (k ≡ false) × (x ≡ false)
-holds_split k x h = (grind arith, grind arith)
-
 -- counts
 
 pub count_is : (f : ℕ) (l : List Entry) → count_of f l ≡ count_by (of_fid f) l

@@ -47,6 +47,7 @@ impl Entry {
     {
         self.key == key
     }
+
     // The mark where the pair is heard again, at this port.
     pub fn again_at(&self, port: u8) -> Mark
         ensures { result ≡ again self.now.port port }

@@ -13,7 +13,8 @@ const A: [u8; 6] = [2, 0, 0, 0, 0, 10];
 
 const B: [u8; 6] = [2, 0, 0, 0, 0, 11];
 
-// What is learned, what is looked for, and the mark and the port that must be answered.
+// FID, address and port to learn, FID and address to find, for people to read side by side, and the mark
+// and the port that must be answered.
 #[derive(Clone, Copy)]
 struct Case {
     learned: (u8, [u8; 6], u8),
@@ -22,7 +23,7 @@ struct Case {
     found: Option<u8>,
 }
 
-// FID, address and port to learn, FID and address to find. A database has room for one address.
+// A database has room for one address.
 const CASES: [Case; 8] = [
     Case {
         learned: (1, A, 5),

@@ -16,6 +16,7 @@ use table::table::Table;
 const A: [u8; 6] = [2, 0, 0, 0, 0, 10];
 
 const B: [u8; 6] = [2, 0, 0, 0, 0, 11];
+
 // These two end as A does.
 const C: [u8; 6] = [6, 0, 0, 0, 0, 10];
 

@@ -6,7 +6,8 @@ use table::entry::{Entry, Key};
 use table::table::Table;
 use tablelaws::laws;
 
-// An enum and no closures, since tables of cases and rolls of dice name calls.
+// An enum and no closures, since tables of cases and rolls of dice name calls. FID and address stand side
+// by side in them, for people to read.
 #[derive(Clone, Copy)]
 pub enum Call {
     Find(u8, [u8; 6]),
@@ -23,6 +24,12 @@ pub enum Answer {
     // Expire says nothing.
     Done,
     Removed(usize),
+}
+
+// An address for each number.
+pub fn numbered(n: u16) -> [u8; 6] {
+    let [high, low] = n.to_be_bytes();
+    [2, 0, 0, 0, high, low]
 }
 
 // Makes a call.

@@ -1,5 +1,6 @@
 // The two tables that keep records, empty: what their check asks is asked first. Two functions and not one
-// that takes the making, since the bound of a closure may not name a const parameter.
+// that takes the making: the bound of a closure may not name a const parameter, and a trait would need as
+// many lines for each table.
 use fault::refusal::Refusal;
 use hashed::hashed::Hashed;
 use searched::searched::Searched;

@@ -1,5 +1,5 @@
 // What is asked before a table is made, and what a made table has room for.
-use crate::calls::{Answer, Call, ask};
+use crate::calls::{Answer, Call, ask, numbered};
 use crate::kinds::{hashed, searched};
 use fault::mark::Mark;
 use fault::refusal::Refusal;
@@ -38,11 +38,6 @@ fn check_marked(rt: &impl Abort, records: &[Entry]) {
     for record in records {
         assert_eq!(rt; *record, marked());
     }
-}
-
-fn numbered(n: u16) -> [u8; 6] {
-    let [high, low] = n.to_be_bytes();
-    [2, 0, 0, 0, high, low]
 }
 
 // Every database takes a share of addresses and no more. Flushing them counts them once more.

@@ -1,6 +1,6 @@
 // Which answers a recent list remembers. No contract says so: only the finds that reach the table below
 // tell, and these are counted here.
-use crate::calls::{Call, ask};
+use crate::calls::{Call, ask, numbered};
 use crate::kinds::searched;
 use fault::mark::Mark;
 use fault::refusal::Refusal;
@@ -47,12 +47,8 @@ impl<'a, T: Table> Table for Counting<'a, T> {
     }
 }
 
-fn numbered(n: u8) -> [u8; 6] {
-    [2, 0, 0, 0, 0, n]
-}
-
 // Asks for the addresses from one number up to another.
-fn find_all<T: Table>(table: &mut T, fid: u8, from: u8, to: u8) {
+fn find_all<T: Table>(table: &mut T, fid: u8, from: u16, to: u16) {
     for n in from..to {
         let _ = ask(table, Call::Find(fid, numbered(n)));
     }

@@ -12,13 +12,13 @@ use table::table::Table;
 
 #[tactic(auto, using(crate::proofs::Follow::find_follows))]
 pub fn find<T: Table>(table: &mut T, key: Key) -> Result<Option<u8>, Refusal>
-    ensures { Finds (T.Table.entries table.old) (T.Table.entries table.new) key.fid key.address result }
+    ensures { Finds (T.entries table.old) (T.entries table.new) key.fid key.address result }
 {
     table.find(key)
 }
 
 pub fn learn<T: Table>(table: &mut T, entry: Entry) -> Result<Mark, Refusal>
-    ensures { Learns (T.Table.share table.old) (T.Table.entries table.old) (T.Table.entries table.new) entry.key.fid entry.key.address entry.port entry.heard result }
+    ensures { Learns (T.share table.old) (T.entries table.old) (T.entries table.new) entry.key.fid entry.key.address entry.port entry.heard result }
 {
     learn_law(table, entry);
     table.learn(entry)
@@ -26,14 +26,14 @@ pub fn learn<T: Table>(table: &mut T, entry: Entry) -> Result<Mark, Refusal>
 
 #[tactic(auto, using(crate::proofs::Follow::expire_follows))]
 pub fn expire<T: Table>(table: &mut T, limit: u64)
-    ensures { Expires limit (T.Table.entries table.old) (T.Table.entries table.new) }
+    ensures { Expires limit (T.entries table.old) (T.entries table.new) }
 {
     table.expire(limit);
 }
 
 #[tactic(auto, using(crate::proofs::Follow::flush_follows))]
 pub fn flush<T: Table>(table: &mut T, fid: u8) -> Result<usize, Refusal>
-    ensures { Flushes (T.Table.entries table.old) (T.Table.entries table.new) fid result }
+    ensures { Flushes (T.entries table.old) (T.entries table.new) fid result }
 {
     table.flush(fid)
 }
@@ -46,7 +46,7 @@ pub fn learn_and_find<T: Table>(
     target: Key,
 ) -> (Result<Mark, Refusal>, Result<Option<u8>, Refusal>)
     ensures same { target ≡ entry.key → FoundAfter result.0 entry.port result.1 }
-    ensures other { has_key target.fid target.address entry ≡ false → result.1 ≡ answered (T.Table.entries table.old) target.fid target.address }
+    ensures other { has_key target.fid target.address entry ≡ false → result.1 ≡ answered (T.entries table.old) target.fid target.address }
 {
     let mark = table.learn(entry);
     let found = table.find(target);
@@ -55,5 +55,5 @@ pub fn learn_and_find<T: Table>(
 
 // Does nothing: its contract is the law of learn at this table.
 fn learn_law<T: Table>(table: &T, entry: Entry)
-    ensures { let share = T.Table.share table.now in let l = T.Table.entries table.now in let k = entry.key in Learns share l (after_learn share l k.fid k.address entry.port entry.heard) k.fid k.address entry.port entry.heard (marked share l k.fid k.address entry.port) }
+    ensures { let share = T.share table.now in let l = T.entries table.now in let k = entry.key in Learns share l (after_learn share l k.fid k.address entry.port entry.heard) k.fid k.address entry.port entry.heard (marked share l k.fid k.address entry.port) }
 {}
