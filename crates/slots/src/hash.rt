@@ -29,7 +29,8 @@ pub fn home(n: usize, key: Key) -> usize
 
 // How many steps a place is past a home, going round.
 pub fn steps_to(n: usize, home: usize, at: usize) -> usize
-    requires { (home < n) × (at < n) }
+    requires start { home < n }
+    requires end { at < n }
     ensures value { result ≡ gap n home at }
     ensures below { result < n }
 {

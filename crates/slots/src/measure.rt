@@ -42,7 +42,8 @@ impl Bounds {
 
     // The bounds with the record at one more place among n.
     fn with_record(self, n: usize, at: usize, entry: &Entry) -> Bounds
-        requires { (at < n) × (self.held ≤ at) }
+        requires place { at < n }
+        requires few { self.held ≤ at }
         ensures value { result ≡ counted n at self entry.now }
         ensures fits { result.held ≤ at + 1 }
     {
