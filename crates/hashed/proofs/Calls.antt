@@ -17,7 +17,7 @@ use Rattle.hashed.specs.declared.hashed.Hashed.{Hashed}
 use Rattle.hashed.specs.Stretch.{Kept, Learned}
 use Rattle.hashed.specs.Layout.{start_of, stretch_of, spared, Laid}
 use Rattle.hashed.specs.Sets.{set_of}
-use Rattle.hashed.proofs.Row.{none_due}
+use Rattle.hashed.proofs.Kept.{none_due}
 use Rattle.hashed.proofs.Clear.{Whole, count_mid, distinct_mid, learned, look_mid, only, sieve_mid}
 use Rattle.hashed.proofs.Cut.{put, count_row, held_cut, held_put, before, after, clear_before, clear_after, length_put, length_stretch, laid_put}
 

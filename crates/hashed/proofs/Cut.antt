@@ -17,7 +17,7 @@ use Rattle.hashed.specs.Stretch.{Kept}
 use Rattle.slots.specs.Sweep.{cleared}
 use Rattle.hashed.specs.Layout.{start_of, stretch_of, Laid}
 use Rattle.hashed.proofs.Held.{all_free}
-use Rattle.hashed.proofs.Row.{kept_count, kept_free}
+use Rattle.hashed.proofs.Kept.{kept_count, kept_free}
 use Rattle.hashed.proofs.Clear.{count_append}
 
 -- one stretch more

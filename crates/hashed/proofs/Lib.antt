@@ -1,5 +1,5 @@
 pub mod Held
-pub mod Row
+pub mod Kept
 pub mod Clear
 pub mod Cut
 pub mod Calls

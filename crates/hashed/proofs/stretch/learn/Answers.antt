@@ -5,7 +5,7 @@ use Rattle.table.specs.Entries.{free_entry, is_free}
 use Rattle.table.specs.Calls.{again}
 use Rattle.hashed.specs.Stretch.Learned.{over, added, full}
 use Rattle.hashed.proofs.Held.{hit_look, over_held, added_held}
-use Rattle.hashed.proofs.Row.{absent, kept_over, kept_added, room}
+use Rattle.hashed.proofs.Kept.{absent, kept_over, kept_added, room}
 use Rattle.hashed.proofs.stretch.learn.Goals as goal
 
 pub returns-in-Some : goal.returns-in-Some

@@ -11,7 +11,7 @@ use Rattle.slots.specs.Hash.{home_of}
 use Rattle.slots.specs.Probe.{Found}
 use Rattle.hashed.specs.Stretch.{Kept}
 use Rattle.hashed.proofs.Held.{hit_look}
-use Rattle.hashed.proofs.Row.{absent}
+use Rattle.hashed.proofs.Kept.{absent}
 use Rattle.hashed.proofs.stretch.port_of.Goals as goal
 
 -- where the search found a record, r is the number that P gives of it

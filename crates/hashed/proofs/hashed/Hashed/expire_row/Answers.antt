@@ -6,7 +6,7 @@ use Rattle.table.specs.Records.{held_of}
 use Rattle.table.proofs.Records.{orderly_kept}
 use Rattle.hashed.specs.Layout.{spared}
 use Rattle.hashed.proofs.Held.{held_swept}
-use Rattle.hashed.proofs.Row.{kept_swept}
+use Rattle.hashed.proofs.Kept.{kept_swept}
 use Rattle.hashed.proofs.Calls.{cuts, kept_part, none_gone, put_laid, put_long, sieved_in}
 use Rattle.hashed.proofs.hashed.Hashed.expire_row.Goals as goal
 use Rattle.hashed.proofs.hashed.Hashed.expire_row.Goals.{After-sweep}
