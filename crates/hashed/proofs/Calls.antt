@@ -14,6 +14,7 @@ use Rattle.table.proofs.Rising.{look_rising}
 use Rattle.slots.specs.declared.measure.Bounds.{Bounds}
 use Rattle.slots.specs.Measure.{empty_bounds}
 use Rattle.hashed.specs.declared.hashed.Hashed.{Hashed}
+use Rattle.hashed.specs.declared.row.Row.{Row}
 use Rattle.hashed.specs.Stretch.{Kept, Learned}
 use Rattle.hashed.specs.Layout.{start_of, stretch_of, spared, Laid}
 use Rattle.hashed.specs.Sets.{set_of}
@@ -22,8 +23,8 @@ use Rattle.hashed.proofs.Clear.{Whole, count_mid, distinct_mid, learned, look_mi
 use Rattle.hashed.proofs.Cut.{put, count_row, held_cut, held_put, before, after, clear_before, clear_after, length_put, length_stretch, laid_put}
 
 -- a row is that of a database
-pub row_fid : (g : ℕ) → g < 16 → is_fid (g + 1) ≡ true
-row_fid g lt = grind (arith, nat_tests)
+pub row_fid : (r : Row) → is_fid (r.index + 1) ≡ true
+row_fid r = grind (arith, nat_tests, r.below)
 
 -- the records from a to b are the stretch of the row g
 pub record Cuts (s : Hashed) (g a b : ℕ) : Type 0 where
@@ -31,8 +32,8 @@ pub record Cuts (s : Hashed) (g a b : ℕ) : Type 0 where
   pub start : a ≡ start_of s.share g
   pub end : b ≡ start_of s.share g + 2 * s.share
 
-pub cuts : (s : Hashed) (g a b : ℕ) → g < 16 → a ≡ start_of s.share g → b ≡ start_of s.share g + 2 * s.share → Cuts s g a b
-cuts s g a b lt p q = record { below = lt; start = p; end = q }
+pub cuts : (s : Hashed) (r : Row) (a b : ℕ) → a ≡ start_of s.share r.index → b ≡ start_of s.share r.index + 2 * s.share → Cuts s r.index a b
+cuts s r a b p q = record { below = r.below; start = p; end = q }
 
 part_is : {s : Hashed} {g a b : ℕ} → Cuts s g a b → between a b s.records.now ≡ stretch_of s.share g s.records.now
 part_is r = rw (r.start, r.end) refl

@@ -1,10 +1,11 @@
 // The table: a stretch of records for each filtering database. A call for one database looks at no
 // record of another.
-ghost use Rattle.std.specs.Prelude.{◌≡◌, ◌+◌, ◌*◌, ◌<◌, ◌≤◌, filter, length};
+ghost use Rattle.std.specs.Prelude.{◌≡◌, ◌+◌, ◌*◌, ◌≤◌, filter, length};
 ghost use Rattle.std.proofs.Props.{props};
 ghost use Rattle.table.specs.Records.{Orderly, held_of};
 ghost use Rattle.hashed.specs.Layout.{Laid, spared, start_of};
 
+use crate::row::Row;
 use crate::stretch::{learn, port_of};
 use fault::mark::Mark;
 use fault::refusal::Refusal;
@@ -54,30 +55,27 @@ impl<'a> Hashed<'a> {
     }
 
     // Where the stretch of a row lies.
-    fn stretch(&self, row: usize) -> Range<usize>
-        requires { row < 16 }
-        ensures start { result.start ≡ start_of self.now.share row }
-        ensures end { result.end ≡ start_of self.now.share row + 2 * self.now.share }
+    fn stretch(&self, row: Row) -> Range<usize>
+        ensures start { result.start ≡ start_of self.now.share row.index }
+        ensures end { result.end ≡ start_of self.now.share row.index + 2 * self.now.share }
         ensures fits { result.end ≤ 32 * self.now.share }
     {
-        let start = row * (2 * self.share);
+        let start = row.index * (2 * self.share);
         start..start + 2 * self.share
     }
 
     // The port of an address, from the stretch of its database.
-    fn port_at(&self, row: usize, key: Key) -> Option<u8>
-        requires below { row < 16 }
-        requires own { row + 1 ≡ key.fid }
+    fn port_at(&self, row: Row, key: Key) -> Option<u8>
+        requires { row.index + 1 ≡ key.fid }
         ensures { result ≡ port_of (lookup (set_of self.now) key.fid key.address) }
     {
         let stretch = self.stretch(row);
-        port_of(&self.records[stretch], self.bounds[row], key)
+        port_of(&self.records[stretch], self.bounds[row.index], key)
     }
 
     // Learns an entry in the stretch of its database.
-    fn learn_at(&mut self, row: usize, entry: Entry) -> Mark
-        requires below { row < 16 }
-        requires own { row + 1 ≡ entry.key.fid }
+    fn learn_at(&mut self, row: Row, entry: Entry) -> Mark
+        requires { row.index + 1 ≡ entry.key.fid }
         ensures mark { Ok result ≡ marked self.old.share (set_of self.old) entry.key.fid entry.key.address entry.port }
         ensures later { set_of self.new ≡ after_learn self.old.share (set_of self.old) entry.key.fid entry.key.address entry.port entry.heard }
         ensures share { self.new.share ≡ self.old.share }
@@ -85,38 +83,36 @@ impl<'a> Hashed<'a> {
         let stretch = self.stretch(row);
         learn(
             &mut self.records[stretch],
-            &mut self.bounds[row],
+            &mut self.bounds[row.index],
             self.share,
             entry,
         )
     }
 
     // Frees the stretch of a database, and says how many entries it held.
-    fn flush_at(&mut self, row: usize) -> usize
-        requires { row < 16 }
-        ensures gone { Ok result ≡ flushed (set_of self.old) (row + 1) }
-        ensures later { set_of self.new ≡ after_flush (set_of self.old) (row + 1) }
+    fn flush_at(&mut self, row: Row) -> usize
+        ensures gone { Ok result ≡ flushed (set_of self.old) (row.index + 1) }
+        ensures later { set_of self.new ≡ after_flush (set_of self.old) (row.index + 1) }
         ensures share { self.new.share ≡ self.old.share }
     {
         let stretch = self.stretch(row);
         clear(&mut self.records[stretch]);
-        mem::replace(&mut self.bounds[row], Bounds::empty()).held
+        mem::replace(&mut self.bounds[row.index], Bounds::empty()).held
     }
 
     // Frees the records of one stretch that were heard at the limit or before it. The bounds are then
     // measured anew, so that what went away does not make later searches longer.
-    fn expire_row(&mut self, row: usize, limit: u64)
-        requires { row < 16 }
+    fn expire_row(&mut self, row: Row, limit: u64)
         ensures share { self.new.share ≡ self.old.share }
-        ensures swept { held_of self.new.records.now ≡ filter (spared limit (row + 1)) (held_of self.old.records.now) }
+        ensures swept { held_of self.new.records.now ≡ filter (spared limit (row.index + 1)) (held_of self.old.records.now) }
     {
-        if !self.bounds[row].is_due(limit) {
+        if !self.bounds[row.index].is_due(limit) {
             return;
         }
         let stretch = self.stretch(row);
         let records = &mut self.records[stretch];
         sweep(records, limit);
-        self.bounds[row] = Bounds::of(records);
+        self.bounds[row.index] = Bounds::of(records);
     }
 }
 
@@ -130,25 +126,25 @@ impl<'a> Table for Hashed<'a> {
     ghost share = { λ s. s.share };
 
     fn find(&mut self, key: Key) -> Result<Option<u8>, Refusal> {
-        let row = Fid::try_from(key.fid)?.row();
+        let row = Row::from(Fid::try_from(key.fid)?);
         Ok(self.port_at(row, key))
     }
 
     fn learn(&mut self, entry: Entry) -> Result<Mark, Refusal> {
-        let row = Fid::try_from(entry.key.fid)?.row();
+        let row = Row::from(Fid::try_from(entry.key.fid)?);
         Ok(self.learn_at(row, entry))
     }
 
     #[tactic(auto, using(crate::proofs::Calls::none_yet, crate::proofs::Calls::one_more))]
     fn expire(&mut self, limit: u64) {
         // By row: a share may be 0, and there is no going over chunks of 0 records.
-        for row in 0..16 {
-            self.expire_row(row, limit);
+        for index in 0..16 {
+            self.expire_row(Row { index }, limit);
         }
     }
 
     fn flush(&mut self, fid: u8) -> Result<usize, Refusal> {
-        let row = Fid::try_from(fid)?.row();
+        let row = Row::from(Fid::try_from(fid)?);
         Ok(self.flush_at(row))
     }
 

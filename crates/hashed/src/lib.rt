@@ -2,4 +2,5 @@
 #![tactic(auto)]
 
 pub mod hashed;
+mod row;
 mod stretch;

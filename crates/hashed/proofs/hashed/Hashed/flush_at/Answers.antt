@@ -9,26 +9,26 @@ use Rattle.hashed.proofs.Calls.{counted_in, cuts, flushed_in, put_laid, put_long
 use Rattle.hashed.proofs.hashed.Hashed.flush_at.Goals as goal
 use Rattle.hashed.proofs.hashed.Hashed.flush_at.Goals.{After-clear}
 
-flushed : (c : After-clear) → held_of (put_mid c.stretch-stretch.result.start (c.stretch-stretch.result.end - c.stretch-stretch.result.start) c.args.self.now.records.now c.clear.new.records) ≡ filter (not_of_fid (c.args.row + 1)) (held_of c.args.self.now.records.now)
-flushed c = flushed_in (cuts c.args.self.now c.args.row _ _ c.requires c.stretch-stretch.ensures.start c.stretch-stretch.ensures.end) (c.args.row + 1) c.clear.new.records refl (held_cleared _ _ c.clear.ensures)
+flushed : (c : After-clear) → held_of (put_mid c.stretch-stretch.result.start (c.stretch-stretch.result.end - c.stretch-stretch.result.start) c.args.self.now.records.now c.clear.new.records) ≡ filter (not_of_fid (c.args.row.index + 1)) (held_of c.args.self.now.records.now)
+flushed c = flushed_in (cuts c.args.self.now c.args.row _ _ c.stretch-stretch.ensures.start c.stretch-stretch.ensures.end) (c.args.row.index + 1) c.clear.new.records refl (held_cleared _ _ c.clear.ensures)
 
 pub invariant_of-self : goal.invariant_of-self
 invariant_of-self c =
     let s = c.args.self.now in
-    let r = cuts s c.args.row _ _ c.requires c.stretch-stretch.ensures.start c.stretch-stretch.ensures.end in
+    let r = cuts s c.args.row _ _ c.stretch-stretch.ensures.start c.stretch-stretch.ensures.end in
     record {
       small = s.small;
       long = put_long r c.clear.new.records c.clear.auto.records;
-      laid = put_laid r c.clear.new.records c.replace.new.dest c.clear.auto.records (omega arith) (rw (c.replace.ensures.after, c.empty.ensures) (kept_cleared (c.args.row + 1) _ _ (omega arith) c.clear.ensures));
-      orderly = orderly_kept s.share (not_of_fid (c.args.row + 1)) (held_of s.records.now) _ s.orderly (flushed (goal.at.invariant_of-self c).After-clear);
+      laid = put_laid r c.clear.new.records c.replace.new.dest c.clear.auto.records (omega arith) (rw (c.replace.ensures.after, c.empty.ensures) (kept_cleared (c.args.row.index + 1) _ _ (omega arith) c.clear.ensures));
+      orderly = orderly_kept s.share (not_of_fid (c.args.row.index + 1)) (held_of s.records.now) _ s.orderly (flushed (goal.at.invariant_of-self c).After-clear);
     }
 
 pub returns-clause-gone : goal.returns-clause-gone
 returns-clause-gone c =
     let s = c.args.self.now in
-    flushed_is s.share (held_of s.records.now) (c.args.row + 1) _ (row_fid c.args.row c.requires) s.orderly (ap (λ b. b.held) c.replace.ensures.value ∙ counted_in s (c.args.row + 1) c.args.row _ c.requires refl (omega arith))
+    flushed_is s.share (held_of s.records.now) (c.args.row.index + 1) _ (row_fid c.args.row) s.orderly (ap (λ b. b.held) c.replace.ensures.value ∙ counted_in s (c.args.row.index + 1) c.args.row.index _ c.args.row.below refl (omega arith))
 
 pub returns-clause-later : goal.returns-clause-later
 returns-clause-later c =
     let s = c.args.self.now in
-    flush_is s.share (held_of s.records.now) _ (c.args.row + 1) (row_fid c.args.row c.requires) s.orderly (flushed (goal.at.returns-clause-later c).After-clear)
+    flush_is s.share (held_of s.records.now) _ (c.args.row.index + 1) (row_fid c.args.row) s.orderly (flushed (goal.at.returns-clause-later c).After-clear)

@@ -9,16 +9,16 @@ use Rattle.hashed.proofs.hashed.Hashed.learn_at.Goals as goal
 use Rattle.hashed.proofs.hashed.Hashed.learn_at.Goals.{After-learn}
 
 whole : (c : After-learn) → Whole c.args.self.now.share (held_of c.args.self.now.records.now) (held_of (put_mid c.stretch-stretch.result.start (c.stretch-stretch.result.end - c.stretch-stretch.result.start) c.args.self.now.records.now c.learn.new.records)) c.args.entry c.learn.result
-whole c = learned_in (cuts c.args.self.now c.args.row _ _ c.requires.below c.stretch-stretch.ensures.start c.stretch-stretch.ensures.end) c.learn.new.records c.args.entry c.learn.result c.requires.own (ap is_fid (sym c.requires.own) ∙ row_fid c.args.row c.requires.below) c.learn.ensures.learned
+whole c = learned_in (cuts c.args.self.now c.args.row _ _ c.stretch-stretch.ensures.start c.stretch-stretch.ensures.end) c.learn.new.records c.args.entry c.learn.result c.requires (ap is_fid (sym c.requires) ∙ row_fid c.args.row) c.learn.ensures.learned
 
 pub learn-requires-clause-apart : goal.learn-requires-clause-apart
-learn-requires-clause-apart c = part_apart (cuts c.args.self.now c.args.row _ _ c.requires.below c.stretch-stretch.ensures.start c.stretch-stretch.ensures.end)
+learn-requires-clause-apart c = part_apart (cuts c.args.self.now c.args.row _ _ c.stretch-stretch.ensures.start c.stretch-stretch.ensures.end)
 
 pub invariant_of-self : goal.invariant_of-self
 invariant_of-self c =
     let s = c.args.self.now in
-    let r = cuts s c.args.row _ _ c.requires.below c.stretch-stretch.ensures.start c.stretch-stretch.ensures.end in
-    let kept : Kept (c.args.row + 1) c.learn.new.records c.learn.new.bounds = subst (λ f. Kept f c.learn.new.records c.learn.new.bounds) (sym c.requires.own) c.learn.ensures.kept in
+    let r = cuts s c.args.row _ _ c.stretch-stretch.ensures.start c.stretch-stretch.ensures.end in
+    let kept : Kept (c.args.row.index + 1) c.learn.new.records c.learn.new.bounds = subst (λ f. Kept f c.learn.new.records c.learn.new.bounds) (sym c.requires) c.learn.ensures.kept in
     record {
       small = s.small;
       long = put_long r c.learn.new.records c.learn.auto.records;

@@ -8,4 +8,4 @@ use Rattle.hashed.proofs.hashed.HashedTable.expire.Goals as goal
 pub returns-clause-later : goal.returns-clause-later
 returns-clause-later c =
     let s = c.args.self.now in
-    kept_is s.share (heard_after c.args.limit) (held_of s.records.now) _ s.orderly (c.loop-row.invariant.swept ∙ all_done c.args.limit c.loop-row.row _ c.loop-row-test.false s.orderly.ranged)
+    kept_is s.share (heard_after c.args.limit) (held_of s.records.now) _ s.orderly (c.loop-index.invariant.swept ∙ all_done c.args.limit c.loop-index.index _ c.loop-index-test.false s.orderly.ranged)

@@ -3,5 +3,5 @@ use Rattle.table.specs.Records.{held_of}
 use Rattle.hashed.proofs.Calls.{spared_to}
 use Rattle.hashed.proofs.hashed.HashedTable.expire.Given as goal
 
-abbrev pub invariant-loop-row : goal.invariant-loop-row
-invariant-loop-row l = record { share : l.self.share ≡ l.initial.self.share; swept : held_of l.self.records.now ≡ filter (spared_to l.limit l.row) (held_of l.initial.self.records.now) }
+abbrev pub invariant-loop-index : goal.invariant-loop-index
+invariant-loop-index l = record { share : l.self.share ≡ l.initial.self.share; swept : held_of l.self.records.now ≡ filter (spared_to l.limit l.index) (held_of l.initial.self.records.now) }
