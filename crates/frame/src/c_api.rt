@@ -11,8 +11,10 @@ pub fn bridge_read_frame(frame: &[u8]) -> u32
 {
     match read(frame) {
         Err(refusal) => 65536 * u32::from(refusal.number()),
-        Ok(parts) => parts.tag.map_or(0, |tag| {
-            u32::from(tag.vid) + 4096 * u32::from(tag.priority) + 32768
-        }),
+        // No `map_or`: with a closure here, reading a tagged frame takes half as long again.
+        Ok(parts) => match parts.tag {
+            None => 0,
+            Some(tag) => u32::from(tag.vid) + 4096 * u32::from(tag.priority) + 32768,
+        },
     }
 }
