@@ -1,13 +1,13 @@
 -- For tables that keep entries l in any order, no two of one pair: what they answer and leave is what the rising list of l says.
-use Rattle.std.proofs.Common.{◌≡◌, ℕ, ◌<◌, ◌≤◌, Bool, true, false, List, [], ◌∷◌, ◌++◌, Some, None, Ok, filter, Option, sym, refl, ap, ◌∙◌, arith}
+use Rattle.std.proofs.Common.{◌≡◌, ℕ, ◌<◌, ◌≤◌, Bool, true, false, List, ◌∷◌, ◌++◌, Some, None, Ok, filter, Option, sym, ap, ◌∙◌, arith}
 use Rattle.std.proofs.lemmas.Bool.Decides.{nat_tests}
 use Rattle.fault.specs.declared.mark.Mark.{Mark}
 use Rattle.table.specs.declared.entry.Entry.{Entry}
 use Rattle.table.specs.Entries.{is_fid, new_entry, lookup, not_of_fid, count_of, fids_in_range}
 use Rattle.table.specs.Rising.{rising}
-use Rattle.table.specs.Calls.{port_of, answered, mark_at, marked, after_learn, flushed, after_flush}
+use Rattle.table.specs.Calls.{mark_at, marked, after_learn, flushed, after_flush}
 use Rattle.table.specs.Records.{holds, rewritten, Orderly}
-use Rattle.table.proofs.Records.{holds_some, holds_none}
+use Rattle.table.proofs.Records.{holds_some, holds_none, holds_front}
 use Rattle.table.proofs.Rising.{look_rising, count_rising, kept_rising, range_rising, rising_in, rising_written}
 
 pub fair_rising : (share : ℕ) (l : List Entry) → Orderly share l → (f : ℕ) → count_of f (rising l) ≤ share
@@ -24,10 +24,6 @@ mark_is share l f a p o m d r e k = grind (arith, look_rising l f a, count_risin
 -- the entry of the pair is written anew
 pub over_is : (share : ℕ) (l m : List Entry) (f : ℕ) (a : List ℕ) (p t : ℕ) (e : Entry) → is_fid f ≡ true → lookup l f a ≡ Some e → m ≡ rewritten l f a p t → rising m ≡ after_learn share (rising l) f a p t
 over_is share l m f a p t e r h w = grind (arith, look_rising l f a, rising_written l f a p t (holds_some l f a e h))
-
-holds_front : (l m : List Entry) (f : ℕ) (a : List ℕ) → holds (l ++ m) f a ≡ false → holds l f a ≡ false
-holds_front [] m f a h = refl
-holds_front (e ∷ l) m f a h = grind (arith, holds_front l m f a)
 
 -- a new entry is written anywhere among them
 pub new_is : (share : ℕ) (k n : List Entry) (f : ℕ) (a : List ℕ) (p t : ℕ) → is_fid f ≡ true → Orderly share (k ++ n) → lookup (k ++ n) f a ≡ None → count_of f (k ++ n) < share → rising (k ++ new_entry f a p t ∷ n) ≡ after_learn share (rising (k ++ n)) f a p t

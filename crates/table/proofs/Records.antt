@@ -39,6 +39,10 @@ holds_some l f a e h = holds_is l f a ∙ ap is_some h
 pub holds_none : (l : List Entry) (f : ℕ) (a : List ℕ) → lookup l f a ≡ None → holds l f a ≡ false
 holds_none l f a h = holds_is l f a ∙ ap is_some h
 
+pub holds_front : (l m : List Entry) (f : ℕ) (a : List ℕ) → holds (l ++ m) f a ≡ false → holds l f a ≡ false
+holds_front [] m f a h = refl
+holds_front (e ∷ l) m f a h = grind (arith, holds_front l m f a)
+
 -- counts
 
 pub count_is : (f : ℕ) (l : List Entry) → count_of f l ≡ count_by (of_fid f) l
@@ -48,6 +52,11 @@ pub count_flush : (f : ℕ) (l : List Entry) → length (filter (not_of_fid f) l
 count_flush f l = omega (arith, count_is f l, length-filter (of_fid f) l, length-filter_both (not_of_fid f) (of_fid f) (λ x. grind arith) l)
 
 -- filters
+
+-- one filter after another, where a third passes what both do
+pub kept_both : (p q r : Entry → Bool) → ((e : Entry) → cond (p e) (q e) false ≡ r e) → (l : List Entry) → filter q (filter p l) ≡ filter r l
+kept_both p q r h [] = refl
+kept_both p q r h (e ∷ es) = grind (arith, kept_both p q r h es, h e)
 
 pub holds_kept : (p : Entry → Bool) (l : List Entry) (f : ℕ) (a : List ℕ) → holds l f a ≡ false → holds (filter p l) f a ≡ false
 holds_kept p [] f a h = refl

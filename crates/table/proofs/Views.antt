@@ -1,5 +1,5 @@
 -- What a call leaves of one filtering database, and what it answers about it, is a matter of the entries of that database alone.
-use Rattle.std.proofs.Common.{◌≡◌, ℕ, Bool, true, List, [], ◌∷◌, length, filter, sym, refl, ◌∙◌, arith}
+use Rattle.std.proofs.Common.{◌≡◌, ℕ, Bool, true, false, cond, List, [], ◌∷◌, length, filter, sym, refl, ◌∙◌, arith}
 use Rattle.std.proofs.lemmas.Bool.{eq-eqb}
 use Rattle.std.proofs.lemmas.Bool.Decides.{nat_tests}
 use Rattle.std.proofs.lemmas.List.Sums.{length-filter}
@@ -8,18 +8,16 @@ use Rattle.table.specs.Entries.{is_fid, new_entry, lookup, of_fid, not_of_fid, e
 use Rattle.table.specs.Rising.{insert, rises}
 use Rattle.table.specs.Calls.{answered, marked, after_learn, after_expire, heard_after, flushed, after_flush}
 use Rattle.table.proofs.Order.{order_key}
-use Rattle.table.proofs.Records.{count_is}
+use Rattle.table.proofs.Records.{count_is, kept_both}
 use Rattle.table.proofs.Rising.{kept_insert}
 
 -- filters in either order
 kept_kept : (p q : Entry → Bool) (l : List Entry) → filter p (filter q l) ≡ filter q (filter p l)
-kept_kept p q [] = refl
-kept_kept p q (x ∷ l) = grind (arith, kept_kept p q l)
+kept_kept p q l = kept_both q p (λ x. cond (p x) (q x) false) (λ x. grind arith) l ∙ sym (kept_both p q _ (λ x. refl) l)
 
 -- a filter that lets pass all that another does is not seen past that
 kept_within : (p q : Entry → Bool) (l : List Entry) → ((x : Entry) → p x ≡ true → q x ≡ true) → filter p (filter q l) ≡ filter p l
-kept_within p q [] h = refl
-kept_within p q (x ∷ l) h = grind (arith, kept_within p q l h, h x)
+kept_within p q l h = kept_both q p p (λ x. grind (arith, h x)) l
 
 -- what another database learns
 
