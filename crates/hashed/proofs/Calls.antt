@@ -10,6 +10,7 @@ use Rattle.table.specs.declared.entry.Entry.{Entry}
 use Rattle.table.specs.Entries.{is_fid, fids_in_range, not_of_fid, lookup, count_of}
 use Rattle.table.specs.Calls.{port_of, heard_after}
 use Rattle.table.specs.Records.{distinct, held_of}
+use Rattle.table.proofs.Records.{kept_both}
 use Rattle.table.proofs.Rising.{look_rising}
 use Rattle.slots.specs.declared.measure.Bounds.{Bounds}
 use Rattle.slots.specs.Measure.{empty_bounds}
@@ -20,7 +21,7 @@ use Rattle.hashed.specs.Layout.{start_of, stretch_of, spared, Laid}
 use Rattle.hashed.specs.Sets.{set_of}
 use Rattle.hashed.proofs.Kept.{none_due}
 use Rattle.hashed.proofs.Clear.{Whole, count_mid, distinct_mid, learned, look_mid, only, sieve_mid}
-use Rattle.hashed.proofs.Cut.{put, count_row, held_cut, held_put, before, after, clear_before, clear_after, length_put, length_stretch, laid_put}
+use Rattle.hashed.proofs.Cut.{put, count_row, held_cut, held_put, before, after, clear_before, clear_after, length_stretch, laid_put}
 
 -- a row is that of a database
 pub row_fid : (r : Row) → is_fid (r.index + 1) ≡ true
@@ -32,8 +33,9 @@ pub record Cuts (s : Hashed) (g a b : ℕ) : Type 0 where
   pub start : a ≡ start_of s.share g
   pub end : b ≡ start_of s.share g + 2 * s.share
 
-pub cuts : (s : Hashed) (r : Row) (a b : ℕ) → a ≡ start_of s.share r.index → b ≡ start_of s.share r.index + 2 * s.share → Cuts s r.index a b
-cuts s r a b p q = record { below = r.below; start = p; end = q }
+-- from what `stretch` promises of its range
+pub cuts : (s : Hashed) (r : Row) {a b : ℕ} → record { start : a ≡ start_of s.share r.index; end : b ≡ start_of s.share r.index + 2 * s.share; fits : b ≤ 32 * s.share } → Cuts s r.index a b
+cuts s r c = record { below = r.below; start = c.start; end = c.end }
 
 part_is : {s : Hashed} {g a b : ℕ} → Cuts s g a b → between a b s.records.now ≡ stretch_of s.share g s.records.now
 part_is r = rw (r.start, r.end) refl
@@ -53,9 +55,6 @@ pub kept_part : {s : Hashed} {g a b : ℕ} → Cuts s g a b → Kept (g + 1) (be
 kept_part {s} {g} r = subst (λ l. Kept (g + 1) l (get_or s.bounds g empty_bounds)) (sym (part_is r)) (s.laid g r.below)
 
 -- what the table keeps, with the stretch put back altered
-
-pub put_long : {s : Hashed} {g a b : ℕ} → Cuts s g a b → (ys : List Entry) → length ys ≡ length (between a b s.records.now) → length (put_mid a (b - a) s.records.now ys) ≡ 32 * s.share
-put_long {s} {g} r ys e = ap length (put_is r ys) ∙ length_put s.share g s.records.now ys r.below s.long (e ∙ part_long r)
 
 pub put_laid : {s : Hashed} {g a b : ℕ} → Cuts s g a b → (ys : List Entry) (d : Bounds) → length ys ≡ length (between a b s.records.now) → length s.bounds ≡ 16 → Kept (g + 1) ys d → Laid s.share (put_mid a (b - a) s.records.now ys) (set s.bounds g d)
 put_laid {s} {g} r ys d e n k = subst (λ l. Laid s.share l (set s.bounds g d)) (sym (put_is r ys)) (laid_put s g ys d r.below n (e ∙ part_long r) k)
@@ -118,12 +117,8 @@ none_gone s limit g d lt n due =
 abbrev pub spared_to : ℕ → ℕ → Entry → Bool
 spared_to limit g e = cond (ltb g e.key.fid) true (heard_after limit e)
 
-twice : (p q r : Entry → Bool) → ((e : Entry) → cond (p e) (q e) false ≡ r e) → (l : List Entry) → filter q (filter p l) ≡ filter r l
-twice p q r h [] = refl
-twice p q r h (e ∷ l) = grind (arith, nat_tests, twice p q r h l, h e)
-
 pub one_more : (limit g : ℕ) (l : List Entry) → filter (spared limit (g + 1)) (filter (spared_to limit g) l) ≡ filter (spared_to limit (g + 1)) l
-one_more limit g l = twice _ _ _ (λ e. tests (heard_after limit e) g e.key.fid) l
+one_more limit g l = kept_both _ _ _ (λ e. tests (heard_after limit e) g e.key.fid) l
   where
     tests : (b : Bool) (g f : ℕ) → cond (cond (ltb g f) true b) (cond (eqb f (g + 1)) b true) false ≡ cond (ltb (g + 1) f) true b
     tests b g f = grind (arith, nat_tests)

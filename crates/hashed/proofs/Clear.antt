@@ -1,17 +1,18 @@
 -- Entries of other databases before and after those of one: calls for that one pass them by.
-use Rattle.std.proofs.Common.{◌≡◌, ℕ, ◌+◌, ◌<◌, ◌≤◌, Bool, true, false, cond, eqb, List, [], ◌∷◌, ◌++◌, length, Some, None, Ok, filter, sym, refl, ap, ◌∙◌, subst, arith}
+use Rattle.std.proofs.Common.{◌≡◌, ℕ, ◌+◌, ◌<◌, ◌≤◌, Bool, true, cond, eqb, List, [], ◌∷◌, ◌++◌, length, Some, None, Ok, filter, sym, refl, ap, ◌∙◌, subst, arith}
 use Rattle.std.proofs.lemmas.List.Elements.{filter-append}
+use Rattle.std.proofs.lemmas.List.Folds.{find-append}
 use Rattle.std.proofs.lemmas.List.{append_assoc}
 use Rattle.std.proofs.lemmas.Bool.{lt-ltb, le-ltb}
 use Rattle.std.proofs.lemmas.Bool.Decides.{nat_tests}
 use Rattle.fault.specs.declared.mark.Mark.{Mark}
 use Rattle.fault.specs.declared.mark.Mark.TheVariants.{New, Full}
 use Rattle.table.specs.declared.entry.Entry.{Entry}
-use Rattle.table.specs.Entries.{is_fid, lookup, count_of}
+use Rattle.table.specs.Entries.{is_fid, has_key, lookup, count_of}
 use Rattle.table.specs.Rising.{rising}
 use Rattle.table.specs.Calls.{marked, after_learn}
-use Rattle.table.specs.Records.{holds, distinct, rewritten, Orderly}
-use Rattle.table.proofs.Records.{count_flush, orderly_written, orderly_in}
+use Rattle.table.specs.Records.{distinct, rewritten, Orderly}
+use Rattle.table.proofs.Records.{count_flush, holds_front, orderly_written, orderly_in}
 use Rattle.table.proofs.Implement.{mark_is, over_is, new_is, full_is}
 use Rattle.hashed.specs.Stretch.{Learned}
 use Rattle.hashed.specs.Stretch.Learned.{over, added, full}
@@ -20,20 +21,12 @@ pub count_append : (f : ℕ) (l m : List Entry) → count_of f (l ++ m) ≡ coun
 count_append f [] m = omega arith
 count_append f (e ∷ l) m = grind (arith, nat_tests, count_append f l m)
 
-pub look_past : (f : ℕ) (a : List ℕ) (l m : List Entry) → count_of f l ≡ 0 → lookup (l ++ m) f a ≡ lookup m f a
-look_past f a [] m h = refl
-look_past f a (e ∷ l) m h = grind (arith, nat_tests, look_past f a l m)
-
 look_clear : (f : ℕ) (a : List ℕ) (l : List Entry) → count_of f l ≡ 0 → lookup l f a ≡ None
 look_clear f a [] h = refl
 look_clear f a (e ∷ l) h = grind (arith, nat_tests, look_clear f a l)
 
-look_before : (f : ℕ) (a : List ℕ) (m l : List Entry) → count_of f l ≡ 0 → lookup (m ++ l) f a ≡ lookup m f a
-look_before f a [] l h = look_clear f a l h
-look_before f a (e ∷ m) l h = grind (arith, nat_tests, look_before f a m l h)
-
 pub look_mid : (f : ℕ) (a : List ℕ) (l m n : List Entry) → count_of f l ≡ 0 → count_of f n ≡ 0 → lookup (l ++ (m ++ n)) f a ≡ lookup m f a
-look_mid f a l m n p q = look_past f a l (m ++ n) p ∙ look_before f a m n q
+look_mid f a l m n p q = let test = has_key f a in grind (arith, find-append test l (m ++ n), find-append test m n, look_clear f a l p, look_clear f a n q)
 
 pub count_mid : (f : ℕ) (l m n : List Entry) → count_of f l ≡ 0 → count_of f n ≡ 0 → count_of f (l ++ (m ++ n)) ≡ count_of f m
 count_mid f l m n p q = omega (arith, count_append f l (m ++ n), count_append f m n)
@@ -61,10 +54,6 @@ sieve_mid f p l m n h i own =
 distinct_back : (l m : List Entry) → distinct (l ++ m) ≡ true → distinct m ≡ true
 distinct_back [] m d = d
 distinct_back (e ∷ l) m d = grind (arith, nat_tests, distinct_back l m)
-
-holds_front : (l m : List Entry) (f : ℕ) (a : List ℕ) → holds (l ++ m) f a ≡ false → holds l f a ≡ false
-holds_front [] m f a h = refl
-holds_front (e ∷ l) m f a h = grind (arith, nat_tests, holds_front l m f a)
 
 distinct_front : (l m : List Entry) → distinct (l ++ m) ≡ true → distinct l ≡ true
 distinct_front [] m d = refl

@@ -3,7 +3,7 @@ use Rattle.std.proofs.Common.{◌≡◌, ℕ, zero, suc, ◌+◌, ◌-◌, ◌*�
 use borrow.Rule.Slice.PartMut.{put_mid}
 use Rattle.std.proofs.lemmas.Nat.{mul-le}
 use Rattle.std.proofs.lemmas.List.Elements.{filter-append}
-use Rattle.std.proofs.lemmas.List.{length-append, length-drop, length-take-le, take-append-drop, take_all, drop-drop, get_or-set_same, get_or-set_other, drop-map, take-map, get_or-map, length-map, get_or-replicate}
+use Rattle.std.proofs.lemmas.List.{length-drop, length-take-le, take-append-drop, take_all, drop-drop, get_or-set_same, get_or-set_other, drop-map, take-map, get_or-map, length-map, get_or-replicate}
 use Rattle.std.proofs.lemmas.Slice.{between_is, take-put_mid_below, drop-put_mid, between-put_mid}
 use Rattle.std.proofs.lemmas.Bool.Decides.{nat_tests}
 use Rattle.std.proofs.lemmas.Bool.{cases_order, cases_eq}
@@ -98,12 +98,6 @@ pub count_row : (f : ℕ) (xs : List Entry) (b : Bounds) → Kept f xs b → cou
 count_row f xs b k = grind (arith, nat_tests, kept_count f f xs b k, k.held)
 
 -- a stretch is put back altered
-
-pub length_put : (share g : ℕ) (xs ys : List Entry) → g < 16 → length xs ≡ 32 * share → length ys ≡ 2 * share → length (put share g xs ys) ≡ 32 * share
-length_put share g xs ys lt le n =
-    let s = start_of share g in
-    let k = 2 * share in
-    omega (arith, start_below share g lt, length-append (take s xs) (ys ++ drop k (drop s xs)), length-append ys (drop k (drop s xs)), length-take-le s xs (omega (arith, start_below share g lt)), length-drop k (drop s xs), length-drop s xs)
 
 stretch_put : (share g : ℕ) (xs ys : List Entry) → g < 16 → length xs ≡ 32 * share → length ys ≡ 2 * share → (j : ℕ) → (j ≡ g → ⊥) → stretch_of share j (put share g xs ys) ≡ stretch_of share j xs
 stretch_put share g xs ys lt n le j ne =

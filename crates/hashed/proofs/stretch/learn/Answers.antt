@@ -21,13 +21,10 @@ returns-in-Some c =
       kept = kept_over xs e.key.fid at e.key.address e.port e.heard c.args.bounds.now _ k d h.2 h.3 c.with_heard.ensures;
     }
 
-pub returns-then-not-has_room : goal.returns-then-not-has_room
-returns-then-not-has_room c =
+pub returns-then-not-has_room-clause-learned : goal.returns-then-not-has_room-clause-learned
+returns-then-not-has_room-clause-learned c =
     let k = c.requires.kept in
-    record {
-      learned = full refl (absent c.args.records.now c.args.entry.key.fid c.args.entry.key.address c.args.bounds.now k c.in_default.ensures) (omega (arith, k.held, ltb-false _ _ (sym c.if-not-has_room.ensures))) refl;
-      kept = k;
-    }
+    full refl (absent c.args.records.now c.args.entry.key.fid c.args.entry.key.address c.args.bounds.now k c.in_default.ensures) (omega (arith, k.held, ltb-false _ _ (sym c.if-not-has_room.ensures))) refl
 
 pub unreachable-requires : goal.unreachable-requires
 unreachable-requires c =

@@ -7,26 +7,25 @@ use Rattle.table.proofs.Records.{orderly_kept}
 use Rattle.hashed.specs.Layout.{spared}
 use Rattle.hashed.proofs.Held.{held_swept}
 use Rattle.hashed.proofs.Kept.{kept_swept}
-use Rattle.hashed.proofs.Calls.{cuts, kept_part, none_gone, put_laid, put_long, sieved_in}
+use Rattle.hashed.proofs.Calls.{cuts, kept_part, none_gone, put_laid, sieved_in}
 use Rattle.hashed.proofs.hashed.Hashed.expire_row.Goals as goal
 use Rattle.hashed.proofs.hashed.Hashed.expire_row.Goals.{After-sweep}
 
 swept : (c : After-sweep) → held_of (put_mid c.stretch-stretch.result.start (c.stretch-stretch.result.end - c.stretch-stretch.result.start) c.args.self.now.records.now c.sweep.new.records) ≡ filter (spared c.args.limit (c.args.row.index + 1)) (held_of c.args.self.now.records.now)
-swept c = sieved_in (cuts c.args.self.now c.args.row _ _ c.stretch-stretch.ensures.start c.stretch-stretch.ensures.end) (c.args.row.index + 1) (heard_after c.args.limit) c.sweep.new.records refl (ap held_of c.sweep.ensures ∙ held_swept c.args.limit _)
+swept c = sieved_in (cuts c.args.self.now c.args.row c.stretch-stretch.ensures) (c.args.row.index + 1) (heard_after c.args.limit) c.sweep.new.records refl (ap held_of c.sweep.ensures ∙ held_swept c.args.limit _)
 
 pub returns-then-not-is_due-clause-swept : goal.returns-then-not-is_due-clause-swept
 returns-then-not-is_due-clause-swept c = none_gone c.args.self.now c.args.limit c.args.row.index _ c.args.row.below (omega arith) (leb-false _ _ (sym c.if-not-is_due.ensures))
 
-pub invariant_of-self : goal.invariant_of-self
-invariant_of-self c =
+pub invariant_of-self-clause-laid : goal.invariant_of-self-clause-laid
+invariant_of-self-clause-laid c =
+    let r = cuts c.args.self.now c.args.row c.stretch-stretch.ensures in
+    put_laid r c.sweep.new.records c.of.result c.sweep.auto.records (omega arith) (rw (c.of.ensures, c.sweep.ensures) (kept_swept c.args.limit (c.args.row.index + 1) _ _ (kept_part r)))
+
+pub invariant_of-self-clause-orderly : goal.invariant_of-self-clause-orderly
+invariant_of-self-clause-orderly c =
     let s = c.args.self.now in
-    let r = cuts s c.args.row _ _ c.stretch-stretch.ensures.start c.stretch-stretch.ensures.end in
-    record {
-      small = s.small;
-      long = put_long r c.sweep.new.records c.sweep.auto.records;
-      laid = put_laid r c.sweep.new.records c.of.result c.sweep.auto.records (omega arith) (rw (c.of.ensures, c.sweep.ensures) (kept_swept c.args.limit (c.args.row.index + 1) _ _ (kept_part r)));
-      orderly = orderly_kept s.share (spared c.args.limit (c.args.row.index + 1)) (held_of s.records.now) _ s.orderly (swept (goal.at.invariant_of-self c).After-sweep);
-    }
+    orderly_kept s.share (spared c.args.limit (c.args.row.index + 1)) (held_of s.records.now) _ s.orderly (swept (goal.at.invariant_of-self-clause-orderly c).After-sweep)
 
 pub returns-clause-swept : goal.returns-clause-swept
 returns-clause-swept c = swept (goal.at.returns-clause-swept c).After-sweep

@@ -5,23 +5,21 @@ use Rattle.table.specs.Records.{held_of}
 use Rattle.table.proofs.Records.{orderly_kept}
 use Rattle.table.proofs.Implement.{flush_is, flushed_is}
 use Rattle.hashed.proofs.Cut.{held_cleared, kept_cleared}
-use Rattle.hashed.proofs.Calls.{counted_in, cuts, flushed_in, put_laid, put_long, row_fid}
+use Rattle.hashed.proofs.Calls.{counted_in, cuts, flushed_in, put_laid, row_fid}
 use Rattle.hashed.proofs.hashed.Hashed.flush_at.Goals as goal
 use Rattle.hashed.proofs.hashed.Hashed.flush_at.Goals.{After-clear}
 
 flushed : (c : After-clear) → held_of (put_mid c.stretch-stretch.result.start (c.stretch-stretch.result.end - c.stretch-stretch.result.start) c.args.self.now.records.now c.clear.new.records) ≡ filter (not_of_fid (c.args.row.index + 1)) (held_of c.args.self.now.records.now)
-flushed c = flushed_in (cuts c.args.self.now c.args.row _ _ c.stretch-stretch.ensures.start c.stretch-stretch.ensures.end) (c.args.row.index + 1) c.clear.new.records refl (held_cleared _ _ c.clear.ensures)
+flushed c = flushed_in (cuts c.args.self.now c.args.row c.stretch-stretch.ensures) (c.args.row.index + 1) c.clear.new.records refl (held_cleared _ _ c.clear.ensures)
 
-pub invariant_of-self : goal.invariant_of-self
-invariant_of-self c =
+pub invariant_of-self-clause-laid : goal.invariant_of-self-clause-laid
+invariant_of-self-clause-laid c =
+    put_laid (cuts c.args.self.now c.args.row c.stretch-stretch.ensures) c.clear.new.records c.replace.new.dest c.clear.auto.records (omega arith) (rw (c.replace.ensures.after, c.empty.ensures) (kept_cleared (c.args.row.index + 1) _ _ (omega arith) c.clear.ensures))
+
+pub invariant_of-self-clause-orderly : goal.invariant_of-self-clause-orderly
+invariant_of-self-clause-orderly c =
     let s = c.args.self.now in
-    let r = cuts s c.args.row _ _ c.stretch-stretch.ensures.start c.stretch-stretch.ensures.end in
-    record {
-      small = s.small;
-      long = put_long r c.clear.new.records c.clear.auto.records;
-      laid = put_laid r c.clear.new.records c.replace.new.dest c.clear.auto.records (omega arith) (rw (c.replace.ensures.after, c.empty.ensures) (kept_cleared (c.args.row.index + 1) _ _ (omega arith) c.clear.ensures));
-      orderly = orderly_kept s.share (not_of_fid (c.args.row.index + 1)) (held_of s.records.now) _ s.orderly (flushed (goal.at.invariant_of-self c).After-clear);
-    }
+    orderly_kept s.share (not_of_fid (c.args.row.index + 1)) (held_of s.records.now) _ s.orderly (flushed (goal.at.invariant_of-self-clause-orderly c).After-clear)
 
 pub returns-clause-gone : goal.returns-clause-gone
 returns-clause-gone c =
