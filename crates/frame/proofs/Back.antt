@@ -1,7 +1,9 @@
 -- Written parts read back as they were.
-use Rattle.std.proofs.Common.{◌≡◌, ℕ, ◌+◌, ◌*◌, ◌/◌, ◌%◌, ◌≤◌, Bool, true, false, List, ◌++◌, length, get_or, take, drop, Some, None, Ok, Decides, Option, sym, refl, ap, ◌∙◌, subst, append_assoc, arith, length-append}
-use Rattle.std.proofs.lemmas.List.{take_at, drop_at, drop-drop, get_or-append-add}
+use Rattle.std.proofs.Common.{◌≡◌, ℕ, ◌+◌, ◌*◌, ◌/◌, ◌%◌, ◌≤◌, true, false, List, ◌++◌, length, get_or, take, drop, Some, None, Ok, Decides, Option, sym, refl, ap, ◌∙◌, append_assoc, arith, length-append}
+use Rattle.std.proofs.lemmas.List.{take_at, drop_at, drop-drop, get_or-drop}
+use Rattle.std.proofs.lemmas.Bool.{cond-true, true_from_ne_false}
 use Rattle.std.proofs.lemmas.Bool.Decides.{nat_tests}
+use Rattle.std.proofs.lemmas.Option.{none-some}
 use Rattle.fault.proofs.Asked.{answered}
 use Rattle.frame.specs.Reading.{Picture, asked, cfi_in, parse, places_of, priority_in, tag_in, tag_word, tagged, vid_in}
 use Rattle.frame.specs.Writing.{frame_of, readable, shape_asked, size_of, tag_bytes}
@@ -12,13 +14,11 @@ module _ (d s r : List ℕ) (hd : length d ≡ 6) (hs : length s ≡ 6) where
   twelve : length (d ++ s) ≡ 12
   twelve = simp length-append (omega arith)
 
-  past : (k : ℕ) → get_or (d ++ (s ++ r)) (12 + k) 0 ≡ get_or r k 0
-  past k =
-      ap (λ (x : List ℕ). get_or x (12 + k) 0) (sym (append_assoc d s r))
-      ∙ subst (λ (n : ℕ). get_or ((d ++ s) ++ r) (n + k) 0 ≡ get_or r k 0) twelve (get_or-append-add (d ++ s) r k 0)
-
   rest : drop 12 (d ++ (s ++ r)) ≡ r
   rest = ap (λ (x : List ℕ). drop 12 x) (sym (append_assoc d s r)) ∙ drop_at (d ++ s) r 12 twelve
+
+  past : (k : ℕ) → get_or (d ++ (s ++ r)) (12 + k) 0 ≡ get_or r k 0
+  past k = sym (get_or-drop 12 (d ++ (s ++ r)) k 0) ∙ ap (λ (x : List ℕ). get_or x k 0) rest
 
   first : take 6 (d ++ (s ++ r)) ≡ d
   first = take_at d (s ++ r) 6 hd
@@ -28,21 +28,6 @@ module _ (d s r : List ℕ) (hd : length d ≡ 6) (hs : length s ≡ 6) where
 
   size : length (d ++ (s ++ r)) ≡ 12 + length r
   size = simp length-append (omega arith)
-
--- two bytes, high byte first, are one number
-joined : (h l w : ℕ) → h ≡ w / 256 → l ≡ w % 256 → h * 256 + l ≡ w
-joined h l w p q = omega arith
-
--- the three fields of a tag that was put together
-module _ (p v : ℕ) (h : v ≤ 4094) where
-  priority_of : priority_in (p * 8192 + v) ≡ p
-  priority_of = omega arith
-
-  cfi_of : cfi_in (p * 8192 + v) ≡ 0
-  cfi_of = omega arith
-
-  vid_of : vid_in (p * 8192 + v) ≡ v
-  vid_of = omega arith
 
 -- the parts of a frame whose tag and body are known
 parts : (f d s : List ℕ) (t : Option Tag) (b : List ℕ) → asked f ≡ None → take 6 f ≡ d → take 6 (drop 6 f) ≡ s → tag_in f ≡ t
@@ -73,10 +58,10 @@ back d s (Some t) b hd hs w h =
     let p : t.priority ≤ 7 = grind (arith, nat_tests) in
     let v : t.vid ≤ 4094 = grind (arith, nat_tests) in
     let n : tagged f ≡ true = grind (arith, nat_tests) in
-    let word : tag_word f ≡ t.priority * 8192 + t.vid = joined (get_or f 14 0) (get_or f 15 0) (t.priority * 8192 + t.vid) t2 t3 in
-    let a : priority_in (tag_word f) ≡ t.priority = ap priority_in word ∙ priority_of t.priority t.vid v in
-    let c : cfi_in (tag_word f) ≡ 0 = ap cfi_in word ∙ cfi_of t.priority t.vid v in
-    let i : vid_in (tag_word f) ≡ t.vid = ap vid_in word ∙ vid_of t.priority t.vid v in
+    let word : tag_word f ≡ t.priority * 8192 + t.vid = omega (arith, t2, t3) in
+    let a : priority_in (tag_word f) ≡ t.priority = omega (arith, word, v) in
+    let c : cfi_in (tag_word f) ≡ 0 = omega (arith, word, v) in
+    let i : vid_in (tag_word f) ≡ t.vid = omega (arith, word, v) in
     let g : asked f ≡ None = grind (arith, nat_tests) in
     let e : drop 16 f ≡ b = sym (drop-drop 4 12 f) ∙ ap (λ (x : List ℕ). drop 4 x) (rest d s r hd hs) in
     parts f d s (Some t) b g (first d s r hd hs) (second d s r hd hs) (rw n (rw (a, i) refl)) e
@@ -103,16 +88,14 @@ not_back d s None b hd hs h e =
     let t1 : get_or f 13 0 ≡ get_or b 1 0 = past d s b hd hs 1 in
     let n : 60 ≤ length f = grind (arith, nat_tests, a.0) in
     let y : tagged f ≡ true = grind (arith, nat_tests) in
-    let t : ◌≡◌ {A = Option Tag} None (tag_in f) = ap (λ (p : Picture). p.tag) a.1 in
-    let u : ◌≡◌ {A = ℕ} 0 1 = cc (y) in omega arith
+    none-some _ (ap (λ (p : Picture). p.tag) a.1 ∙ cond-true (tagged f) _ _ y)
 
 -- so they read back exactly if they are readable
 pub reads_back : (p : Picture) → length p.destination ≡ 6 → length p.source ≡ 6 → shape_asked p ≡ None → Decides (readable p) (parse (frame_of p) ≡ Ok p)
-reads_back p hd hs w = (back p.destination p.source p.tag p.body hd hs w, λ e. by (readable p) refl e)
-  where
-    by : (b : Bool) → readable p ≡ b → parse (frame_of p) ≡ Ok p → readable p ≡ true
-    by true q e = q
-    by false q e = absurd (not_back p.destination p.source p.tag p.body hd hs q e)
+reads_back p hd hs w = (
+  back p.destination p.source p.tag p.body hd hs w,
+  λ e. true_from_ne_false (readable p) (λ q. not_back p.destination p.source p.tag p.body hd hs q e),
+)
 
 pub size_of_lem : (p : Picture) → length p.destination ≡ 6 → length p.source ≡ 6 → length (frame_of p) ≡ size_of p
 size_of_lem p hd hs = long p.destination p.source p.tag p.body hd hs

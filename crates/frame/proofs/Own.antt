@@ -14,16 +14,6 @@ four f h =
     ∙ ap (λ (x : List ℕ). get_or f 13 0 ∷ x) (drop-cons f 14 0 (omega arith)
     ∙ ap (λ (x : List ℕ). get_or f 14 0 ∷ x) (drop-cons f 15 0 (omega arith))))
 
--- a tag word with CFI 0 is its priority and its VID
-word_of : (w : ℕ) → cfi_in w ≡ 0 → priority_in w * 8192 + vid_in w ≡ w
-word_of w h = omega arith
-
-high : (h l : ℕ) → l < 256 → (h * 256 + l) / 256 ≡ h
-high h l i = omega arith
-
-low : (h l : ℕ) → l < 256 → (h * 256 + l) % 256 ≡ l
-low h l i = omega arith
-
 -- two addresses and the rest
 rejoin : (f r : List ℕ) → drop 12 f ≡ r → take 6 f ++ (take 6 (drop 6 f) ++ r) ≡ f
 rejoin f r e =
@@ -42,9 +32,9 @@ module _ (f : List ℕ) (yes' : asked f ≡ None) (bytes : (i : ℕ) → get_or 
       let z : cfi_in (tag_word f) ≡ 0 = grind (arith, nat_tests) in
       let a : get_or f 12 0 ≡ 0x81 = grind (arith, nat_tests) in
       let b : get_or f 13 0 ≡ 0 = grind (arith, nat_tests) in
-      let w = word_of (tag_word f) z in
-      let h = high (get_or f 14 0) (get_or f 15 0) (bytes 15) in
-      let l = low (get_or f 14 0) (get_or f 15 0) (bytes 15) in
+      let w : priority_in (tag_word f) * 8192 + vid_in (tag_word f) ≡ tag_word f = omega arith in
+      let h : tag_word f / 256 ≡ get_or f 14 0 = omega (arith, bytes 15) in
+      let l : tag_word f % 256 ≡ get_or f 15 0 = omega (arith, bytes 15) in
       four f n ∙ rw e (rw (a, b, w, h, l) refl)
 
   own : frame_of (parts_of f) ≡ f

@@ -4,7 +4,7 @@ use mathlib.Core.Path.{subst⁻¹}
 use borrow.Rule.Slice.PartMut.{put_mid}
 use lib.Seq.{paste}
 use Rattle.std.proofs.lemmas.List.Edits.{paste_all, paste-paste}
-use Rattle.std.proofs.lemmas.List.{drop_all, drop_at, drop-drop, drop-append-le, take-append-drop, take_at}
+use Rattle.std.proofs.lemmas.List.{drop_all, drop_at, drop-drop, drop-append-le, length-take-le, take-append-drop, take_at}
 use Rattle.std.proofs.lemmas.Slice.{put_mid-paste}
 use Rattle.fault.specs.declared.refusal.Refusal.{Refusal}
 use Rattle.fault.specs.Asked.{changed}
@@ -15,9 +15,7 @@ use Rattle.frame.specs.declared.parts.Tag.{Tag}
 
 -- a stretch was lent, and holds zs now
 pub lent : (a k : ℕ) (xs ys zs : List ℕ) → ys ≡ zs → length zs ≡ k → put_mid a k xs ys ≡ put_at xs a zs
-lent a k xs ys zs e h =
-    put_mid-paste a k xs ys zs k e refl (sym h) ∙ paste_all xs a zs k (sym h)
-    ∙ ap (λ (n : ℕ). take a xs ++ (zs ++ drop (a + n) xs)) (sym h)
+lent a k xs ys zs e h = put_mid-paste a k xs ys zs (length zs) e h refl ∙ paste_all xs a zs (length zs) refl
 
 -- one piece right after another is both pieces
 after_length : (m : List ℕ) (at : ℕ) (s t : List ℕ) → at ≤ length m → put_at (put_at m at s) (at + length s) t ≡ put_at m at (s ++ t)
@@ -39,8 +37,7 @@ next m s t m1 m2 n h e1 e2 =
 -- pieces that fill the memory are all that it holds
 whole : (m f : List ℕ) → length f ≡ length m → put_at m 0 f ≡ f
 whole m f e =
-    let p : drop (0 + length f) m ≡ [] = drop_all (0 + length f) m (omega arith) in
-    ap (λ (x : List ℕ). f ++ x) p ∙ append-nil f
+    ap (λ (x : List ℕ). f ++ x) (drop_all (0 + length f) m (omega arith)) ∙ append-nil f
 
 -- two addresses, a tag's bytes and a body, laid one after another where they fill the memory
 filled : (m d s t b m1 m2 m3 m4 : List ℕ) (k : ℕ) → length d ≡ 6 → length s ≡ 6 → 12 + length t ≡ k → length m ≡ k + length b
@@ -64,8 +61,7 @@ parts m d s (Some t) b m1 m2 m3 m4 p e hd hs hm e1 e2 e3 e4 =
 -- what was laid at a place is what stands there
 pub stands : (m : List ℕ) (at : ℕ) (f : List ℕ) (n : ℕ) → at ≤ length m → length f ≡ n → take n (drop at (put_at m at f)) ≡ f
 stands m at f n h e =
-    let l : length (take at m) ≡ at = simp length-take (omega arith) in
-    ap (λ (x : List ℕ). take n x) (drop_at (take at m) (f ++ drop (at + length f) m) at l) ∙ take_at f (drop (at + length f) m) n e
+    ap (λ (x : List ℕ). take n x) (drop_at (take at m) (f ++ drop (at + length f) m) at (length-take-le at m h)) ∙ take_at f (drop (at + length f) m) n e
 
 -- a cell in the middle of the memory, in which a frame was written or not
 pub cell : (r : Result ℕ Refusal) (m f : List ℕ) (a k : ℕ) → ((n : ℕ) → r ≡ Ok n → length f ≤ k) → a + k ≤ length m
