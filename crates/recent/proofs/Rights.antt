@@ -1,7 +1,8 @@
 -- The remembered answers stay right over each call.
 use Rattle.std.proofs.Common.{◌≡◌, ℕ, zero, suc, replicate, ◌<◌, ◌≤◌, Bool, true, false, cond, ◌≢◌, List, [], ◌∷◌, map, length, get_or, set, is_some, Some, None, Ok, Option, Result, sym, refl, ap, ◌∙◌, subst, ⊎_elim, arith}
 use Rattle.std.proofs.lemmas.List.{get_or-set_same, get_or-set_other, set_past, get_or_past, get_or-map, length-map}
-use Rattle.std.proofs.lemmas.Bool.{cases_eq, cases_lt, eqb-false}
+use Rattle.std.proofs.lemmas.Bool.{cases_eq, cases_lt, eqb-false, true≢false}
+use Rattle.std.proofs.lemmas.Option.{none-some, same_Some}
 use Rattle.std.specs.List.{find, flat_map}
 use Rattle.std.specs.Option.{option_map, option_to_list}
 use Rattle.fault.specs.declared.refusal.Refusal.{Refusal}
@@ -22,15 +23,14 @@ ok x = Ok x
 
 -- what is recalled is right
 all_recalled : (l : List Entry) (ms : List (Option Remembered)) (f : ℕ) (a : List ℕ) (p : Option ℕ) → AllRight l ms → Some p ≡ recalled ms f a → Ok p ≡ answered l f a
-all_recalled l [] f a p r h = let z : ◌≡◌ {A = ℕ} 0 1 = cc in absurd (omega arith)
+all_recalled l [] f a p r h = absurd (none-some p (sym h))
 all_recalled l (None ∷ ms) f a p r h = all_recalled l ms f a p (λ i. r (suc i)) h
 all_recalled l (Some m ∷ ms) f a p r h = go (λ k. all_recalled l ms f a p (λ i. r (suc i)) k) (is_of f a m) refl h
   where
     go : (Some p ≡ recalled ms f a → Ok p ≡ answered l f a) → (b : Bool) → is_of f a m ≡ b → Some p ≡ or_else (cond b (Some m.port) None) (recalled ms f a) → Ok p ≡ answered l f a
     go ih true q k =
         let s = key_is f a (new_entry m.key.fid m.key.address 0 0) q in
-        let e : p ≡ m.port = cc in
-        ap ok e ∙ sym (r 0) ∙ ap (λ x. answered l x m.key.address) s.0 ∙ ap (λ x. answered l f x) s.1
+        ap ok (same_Some p m.port k) ∙ sym (r 0) ∙ ap (λ x. answered l x m.key.address) s.0 ∙ ap (λ x. answered l f x) s.1
     go ih false q k = ih k
 
 -- one more answer
@@ -68,7 +68,7 @@ right_expire l limit ms r = right_map l (after_expire limit l) has_port ms (λ m
     go m None e q h =
         let w : Ok None ≡ Ok m.port = ap ok (sym e) in
         answer_expired limit l m.key.fid m.key.address (h ∙ sym w) ∙ w
-    go m (Some p) e q h = let z : ◌≡◌ {A = Bool} true false = ap is_some (sym e) ∙ q in let o : ◌≡◌ {A = ℕ} 0 1 = cc in absurd (omega arith)
+    go m (Some p) e q h = absurd (true≢false (ap is_some (sym e) ∙ q))
 
 right_learn : (share : ℕ) (l : List Entry) (f : ℕ) (a : List ℕ) (p t : ℕ) (ms : List (Option Remembered)) → AllRight l ms → AllRight (after_learn share l f a p t) (map (left (is_of f a)) ms)
 right_learn share l f a p t ms r = right_map l (after_learn share l f a p t) (is_of f a) ms (λ m q h. answer_other share l f a p t m.key.fid m.key.address (key_sym (new_entry m.key.fid m.key.address 0 0) (new_entry f a p t) ∙ q) ∙ h) r
@@ -82,11 +82,11 @@ same_right l k ms same r i = one (get_or ms i None) (r i)
     one (Some m) h = same m.key.fid m.key.address ∙ h
 
 right_unaltered : (m : Mark) (l k : List Entry) (ms : List (Option Remembered)) (share f : ℕ) (a : List ℕ) (p t : ℕ) → alters m ≡ false → k ≡ after_learn share l f a p t → Ok m ≡ marked share l f a p → AllRight l ms → AllRight k ms
-right_unaltered New l k ms share f a p t n e h r = let z : ◌≡◌ {A = ℕ} 0 1 = cc in absurd (omega arith)
+right_unaltered New l k ms share f a p t n e h r = absurd (true≢false n)
 right_unaltered Known l k ms share f a p t n e h r = same_right l k ms (λ g b. ap (λ z. answered z g b) e ∙ answer_known share l f a p t g b h) r
-right_unaltered Moved l k ms share f a p t n e h r = let z : ◌≡◌ {A = ℕ} 0 1 = cc in absurd (omega arith)
+right_unaltered Moved l k ms share f a p t n e h r = absurd (true≢false n)
 right_unaltered Full l k ms share f a p t n e h r = same_right l k ms (λ g b. ap (λ z. answered z g b) (e ∙ after_full share l f a p t h)) r
-right_unaltered Unlearned l k ms share f a p t n e h r = let z : ◌≡◌ {A = ℕ} 0 1 = cc in absurd (omega arith)
+right_unaltered Unlearned l k ms share f a p t n e h r = absurd (true≢false n)
 
 -- the same, as the functions over the slots say it
 
