@@ -1,7 +1,7 @@
 -- The laws of each call, from what it answers and leaves.
 use Rattle.std.proofs.Common.{◌≡◌, ℕ, ◌+◌, Bool, true, false, cond, eqb, ltb, List, [], ◌∷◌, Some, None, Ok, Err, Option, Result, Ordering, Less, Equal, Greater, sym, refl, ap, ◌∙◌, subst, arith}
-use Rattle.std.specs.Ordering.{is_lt}
-use Rattle.std.proofs.lemmas.Bool.{and_parts, and_from, ltb-false, eq-eqb, both_ways, true≢false}
+use Rattle.std.specs.Ordering.{is_eq, is_lt}
+use Rattle.std.proofs.lemmas.Bool.{and_parts, and_from, ltb-false, eq-eqb, both_ways, false_from_ne_true, true≢false}
 use Rattle.fault.specs.declared.mark.Mark.TheVariants.{New, Known, Moved, Full}
 use Rattle.fault.specs.declared.refusal.Refusal.{Refusal}
 use Rattle.fault.specs.declared.refusal.Refusal.TheVariants.{FidOutOfRange}
@@ -46,14 +46,9 @@ before_none e (x ∷ l) h = go (before_none e l (and_parts (is_lt (order e x)) (
     go ih false q = ih
 
 not_own : (e x : Entry) → order e x ≡ Greater → has_key e.key.fid e.key.address x ≡ false
-not_own e x q = go (has_key e.key.fid e.key.address x) refl
-  where
-    go : (b : Bool) → has_key e.key.fid e.key.address x ≡ b → b ≡ false
-    go true k =
-        let s = key_is e.key.fid e.key.address x k in
-        let w = key_order e x (sym s.0) (sym s.1) in
-        let z : ◌≡◌ {A = ℕ} 0 1 = cc in absurd (omega arith)
-    go false k = refl
+not_own e x q = false_from_ne_true (has_key e.key.fid e.key.address x) (λ k.
+    let s = key_is e.key.fid e.key.address x k in
+    true≢false (ap is_eq (sym (key_order e x (sym s.0) (sym s.1)) ∙ q)))
 
 count_over : (g : ℕ) (e : Entry) (l : List Entry) → rises l ≡ true → holds l e.key.fid e.key.address ≡ true → count_of g (insert e l) ≡ count_of g l
 count_over g e [] r h = absurd (true≢false (sym h))
