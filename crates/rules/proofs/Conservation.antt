@@ -1,5 +1,5 @@
 -- Frames queued are frames sent, emptied and standing: call by call, and so over every run.
-use Rattle.std.proofs.Common.{◌≡◌, ℕ, ◌+◌, ◌<◌, Bool, true, false, cond, ◌&&◌, eqb, ltb, List, [], ◌∷◌, ◌++◌, length, None, sym, refl, ap, ◌∙◌, arith}
+use Rattle.std.proofs.Common.{◌≡◌, ℕ, ◌+◌, ◌<◌, Bool, true, false, cond, ◌&&◌, eqb, ltb, List, [], ◌∷◌, ◌++◌, length, None, Option, sym, refl, ap, ◌∙◌, arith}
 use Rattle.std.proofs.lemmas.List.{length_push}
 use Rattle.std.proofs.lemmas.Bool.{cond-true, eqb-true, lt-ltb}
 use Rattle.rules.specs.Calls.{Answer, Call, counted, outcome, perform, standing}
@@ -75,15 +75,17 @@ conserved p (go g path) = omega (arith, one p (did g), conserved p path)
 pub stands : {σ : Settings} {t : State} {steps : List Step} (p : ℕ) → Path' σ at_start steps t → standing_number p steps ≡ standing_at t p
 stands p path = omega (arith, conserved p path)
 
+reads : (σ : Settings) (s : State) (p : ℕ) (choice : Option ℕ) → s.started ≡ true → p < σ.ports → perform σ s (standing p) choice ≡ outcome (counted (standing_at s p)) s
+reads σ s p choice started h = cond-true s.started _ _ started ∙ cond-true (ltb p σ.ports) _ _ (lt-ltb p σ.ports h)
+
 read_goes : {σ : Settings} {s : State} (p : ℕ) → s.started ≡ true → p < σ.ports → Goes σ s (standing_read p (standing_at s p)) s
 read_goes {σ} {s} p started h =
-    let is : perform σ s (standing p) None ≡ outcome (counted (standing_at s p)) s = cond-true s.started _ _ started ∙ cond-true (ltb p σ.ports) _ _ (lt-ltb p σ.ports h) in
+    let is = reads σ s p None started h in
     record { choice = None; chosen = tt; answers = ap (λ o. o.answer) is; leaves = ap (λ o. o.after) is }
 
 read_tells : {σ : Settings} {s t : State} (p n : ℕ) → s.started ≡ true → p < σ.ports → Goes σ s (standing_read p n) t → n ≡ standing_at s p
 read_tells {σ} {s} {t} p n started h g =
-    let is : perform σ s (standing p) g.choice ≡ outcome (counted (standing_at s p)) s = cond-true s.started _ _ started ∙ cond-true (ltb p σ.ports) _ _ (lt-ltb p σ.ports h) in
-    let same' : counted (standing_at s p) ≡ counted n = sym (ap (λ o. o.answer) is) ∙ g.answers in
+    let same' : counted (standing_at s p) ≡ counted n = sym (ap (λ o. o.answer) (reads σ s p g.choice started h)) ∙ g.answers in
     cc
 
 last : {σ : Settings} {s u : State} {step : Step} → Path' σ s (step ∷ []) u → (t : State) × Goes σ s step t

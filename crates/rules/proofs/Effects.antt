@@ -1,6 +1,8 @@
 -- What one call does to the queues and to the ports' states, told by the call and its answer.
-use Rattle.std.proofs.Common.{◌≡◌, ℕ, ◌<◌, Bool, true, false, cond, not, ◌&&◌, ◌||◌, eqb, ltb, leb, List, [], ◌∷◌, ◌++◌, length, get_or, set, Some, None, Ok, Err, Option, Result, sym, refl, ap, ◌∙◌, subst, subst₂, arith}
-use Rattle.std.proofs.lemmas.Bool.{and_parts, eqb-true, not-true, false≢true}
+use Rattle.std.proofs.Common.{◌≡◌, ℕ, ◌<◌, Bool, true, false, cond, not, ◌&&◌, ◌||◌, eqb, ltb, leb, List, [], ◌∷◌, ◌++◌, length, get_or, set, Some, None, Ok, Err, Option, Result, refl, ap, ◌∙◌, subst, subst₂}
+use Rattle.std.specs.Result.{is_ok}
+use Rattle.std.proofs.lemmas.Bool.{and_parts, cond_both, not-true, false≢true}
+use Rattle.std.proofs.lemmas.Option.{none-some}
 use Rattle.fault.specs.declared.mark.Mark.{Mark}
 use Rattle.fault.specs.declared.refusal.Refusal.{Refusal}
 use Rattle.fault.specs.declared.refusal.Refusal.TheVariants.{FrameNotAdmitted, NotMember, NotStarted, PortOutOfRange, FrameMemoryTooSmall, PortNotLearning, PortNotForwarding, ReservedDestination, NoEgressPort, OutputMemoryTooSmall, NoFrameStands, TimeBeforeClock, TimeTooLarge, UnknownEvent, NoTransition}
@@ -26,6 +28,7 @@ use Rattle.rules.specs.Relay.{any_in, decided, decides, forwards, learnable, lea
 use Rattle.rules.specs.Runs.{Chooses, ChoosesAt, Goes, Step}
 use Rattle.rules.specs.Settings.{Settings, has, port_of, vlan_of}
 use Rattle.rules.specs.State.{Queued, State, standing_at, state_of, with_clock, with_entries, with_queues, with_states}
+use Rattle.rules.proofs.IsoSettings.{found_again}
 use Rattle.rules.proofs.Numbers.{flagged, sixteen_has}
 
 -- an answer that tells of no frame queued, sent or emptied
@@ -115,18 +118,13 @@ refuses e r = rested (record { received = refl; sent = refl; emptied = refl }) e
 same_but_entries : (s : State) (t : ℕ) (es : List Entry) → Same s (with_clock s t es)
 same_but_entries s t es = record { started = refl; states = refl; queues = λ p c. refl }
 
-either : {σ : Settings} {s : State} {call : Call} (b : Bool) (x y : Outcome) → Does σ s call x → Does σ s call y → Does σ s call (cond b x y)
-either true x y d e = d
-either false x y d e = e
-
 asks : {σ : Settings} {s : State} {call : Call} (yes' : Bool) (r : Refusal) (t : State) (then' : Outcome) → Same s t → Does σ s call then' → Does σ s call (asking yes' r t then')
-asks yes' r t then' e d = either yes' then' (refusing r t) d (refuses e r)
+asks {σ} {s} {call} yes' r t then' e d = cond_both yes' then' (refusing r t) (Does σ s call) (λ _. d) (λ _. refuses e r)
 
 -- RECEIVE
 
 learned_same : (s : State) (b : Bool) (es : List Entry) → Same s (cond b (with_entries s es) s)
-learned_same s true es = same_but_entries s s.clock es
-learned_same s false es = same s
+learned_same s b es = cond_both b (with_entries s es) s (Same s) (λ _. same_but_entries s s.clock es) (λ _. same s)
 
 due_of : (σ : Settings) (s t : State) → Same s t → (q : ℕ) (v : Vlan) (a : List ℕ) (p : ℕ) → decides σ t q v a p ≡ true → Due s q v p
 due_of σ s t e q v a p d =
@@ -140,26 +138,14 @@ due_of σ s t e q v a p d =
       member = member.1;
     }
 
-no_none : {A X : Type 0} {x : X} → ◌≡◌ {A = Option X} None (Some x) → A
-no_none e = let z : ◌≡◌ {A = ℕ} 0 1 = cc in absurd (omega arith)
-
--- the VLAN found under a VID has that VID
-vid_of : (vs : List Vlan) (vid : ℕ) (v : Vlan) → vlan_of vs vid ≡ Some v → v.vid ≡ vid
-vid_of [] vid v e = no_none e
-vid_of (w ∷ vs) vid v e = go (eqb w.vid vid) refl e (vid_of vs vid v)
-  where
-    go : (b : Bool) → eqb w.vid vid ≡ b → cond b (Some w) (vlan_of vs vid) ≡ Some v → (vlan_of vs vid ≡ Some v → v.vid ≡ vid) → v.vid ≡ vid
-    go true is f later = let same' : w ≡ v = cc in sym (ap (λ x. x.vid) same') ∙ eqb-true w.vid vid is
-    go false is f later = later f
-
 module _ (σ : Settings) (s t : State) (e : Same s t) (q memory : ℕ) (frame : List ℕ) (picture : Picture) (read : parse frame ≡ Ok picture) (v : Vlan) (created : vlan_of σ.vlans v.vid ≡ Some v) (priority : ℕ) (mark : Mark) where
   flood_does : Does σ s (receive q frame memory) (flood σ t q picture v priority mark (decided σ t q v picture.destination))
   flood_does =
       let reach : Ports = decided σ t q v picture.destination in
       let class : ℕ = class_of σ.classes priority in
       let full : Ports = without_room σ t class reach in
-      either (any_in reach.held) _ _
-      (laying
+      cond_both (any_in reach.held) _ _ (Does σ s (receive q frame memory))
+      (λ _. laying
       (record {
         started = e.started;
         states = e.states;
@@ -171,7 +157,7 @@ module _ (σ : Settings) (s t : State) (e : Same s t) (q memory : ℕ) (frame : 
         due = λ p d. due_of σ s t e q v picture.destination p (sixteen_has (decides σ t q v picture.destination) p d);
         queues = λ p c. ap (λ l. cond (lays reach full p && eqb c class) (l ++ (sendable picture v priority p ∷ [])) l) (e.queues p c);
       }))
-      (refuses e (NoEgressPort mark))
+      (λ _. refuses e (NoEgressPort mark))
 
   relay_does : Does σ s (receive q frame memory) (relay σ t q picture v priority mark)
   relay_does =
@@ -184,7 +170,7 @@ learning_does σ s q memory frame picture read v created priority =
     (relay_does σ s (learned σ s q v picture.source) (learned_same s (learnable σ v.vid q picture.source) _) q memory frame picture read v created priority _)
 
 no_err : {A X E : Type 0} {x : X} {r : E} → ◌≡◌ {A = Result X E} (Err r) (Ok x) → A
-no_err e = let z : ◌≡◌ {A = ℕ} 0 1 = cc in absurd (omega arith)
+no_err e = absurd (false≢true (ap is_ok e))
 
 -- the VLAN that a frame enters by is created, and found under its own VID
 member_vlan : (port : PortSettings) (p : ℕ) (o : Option Vlan) (v : Vlan) → of_member port p o ≡ Ok v → o ≡ Some v
@@ -199,9 +185,7 @@ ingress_vlan : (σ : Settings) (p : ℕ) (tag : Option Tag) (v : Vlan) → ingre
 ingress_vlan σ p tag v e = go (admitted (port_of σ p) tag) e
   where
     go : (b : Bool) → cond b (of_member (port_of σ p) p (vlan_of σ.vlans (placed (port_of σ p) tag).vid)) (Err FrameNotAdmitted) ≡ Ok v → vlan_of σ.vlans v.vid ≡ Some v
-    go true f =
-        let found' = member_vlan (port_of σ p) p (vlan_of σ.vlans (placed (port_of σ p) tag).vid) v f in
-        ap (vlan_of σ.vlans) (vid_of σ.vlans (placed (port_of σ p) tag).vid v found') ∙ found'
+    go true f = found_again σ.vlans (placed (port_of σ p) tag).vid v (member_vlan (port_of σ p) p _ v f)
     go false f = no_err f
 
 entering_does : (σ : Settings) (s : State) (q memory : ℕ) (frame : List ℕ) (picture : Picture) → parse frame ≡ Ok picture → (o : Result Vlan Refusal) → ingress σ q picture.tag ≡ o → Does σ s (receive q frame memory) (entering σ s q picture o)
@@ -264,11 +248,11 @@ leaving_event_lem Disabled new x f e = absurd (false≢true f)
 leaving_event_lem Blocking new x f e = absurd (false≢true f)
 leaving_event_lem Listening new x f e = absurd (false≢true f)
 leaving_event_lem Learning new x f e = absurd (false≢true f)
-leaving_event_lem Forwarding new Enable f e = no_none e
+leaving_event_lem Forwarding new Enable f e = absurd (none-some new e)
 leaving_event_lem Forwarding new Disable f e = refl
-leaving_event_lem Forwarding new Choose f e = no_none e
+leaving_event_lem Forwarding new Choose f e = absurd (none-some new e)
 leaving_event_lem Forwarding new Drop f e = refl
-leaving_event_lem Forwarding new DelayOver f e = no_none e
+leaving_event_lem Forwarding new DelayOver f e = absurd (none-some new e)
 
 moved_does : (σ : Settings) (s : State) (p n : ℕ) (new : PortState) → (forwards (state_of s p) ≡ true → leaving n ≡ true) → Does σ s (event p n) (moved s p new)
 moved_does σ s p n new leaves = go (forwards (state_of s p)) refl

@@ -1,7 +1,9 @@
 -- Two bridges that are set up alike for a filtering database: its VLANs and what static entries say
 -- for it are the same.
 use Rattle.std.proofs.Common.{◌≡◌, ℕ, Bool, true, false, cond, ◌&&◌, eqb, List, [], ◌∷◌, Some, None, Option, sym, refl, ap, ◌∙◌}
-use Rattle.std.proofs.lemmas.Bool.{true≢false, and_parts, and_from, eqb-true}
+use Rattle.std.proofs.lemmas.Bool.{true≢false, and_parts, and_from, cond_both, eqb-true}
+use Rattle.std.proofs.lemmas.Option.{none-some, same_Some}
+use Rattle.std.specs.Cmp.{both_ways}
 use Rattle.std.specs.Str.{bytes_eq}
 use Rattle.rules.specs.declared.vlans.StaticEntry.{StaticEntry}
 use Rattle.rules.specs.declared.vlans.Verdict.{Verdict}
@@ -10,14 +12,6 @@ use Rattle.rules.specs.declared.vlans.Vlan.{Vlan}
 use Rattle.rules.specs.Laws.{Alike, of_database}
 use Rattle.rules.specs.Relay.{any_says}
 use Rattle.rules.specs.Settings.{Settings, is_of, says, static_of, verdict_at, vlan_of}
-
--- tests
-
-pub test_same : (b c : Bool) → (b ≡ true → c ≡ true) → (c ≡ true → b ≡ true) → b ≡ c
-test_same true true h k = refl
-test_same true false h k = sym (h refl)
-test_same false true h k = k refl
-test_same false false h k = refl
 
 -- the VLANs of the database
 
@@ -41,11 +35,11 @@ same_vlan f o p h k = sym (own_vlan f o k) ∙ h ∙ own_vlan f p (sym (same_of 
 
 -- the VLAN that is found for a VID has it
 found_vid : (vs : List Vlan) (vid : ℕ) (v : Vlan) → vlan_of vs vid ≡ Some v → v.vid ≡ vid
-found_vid [] vid v h = let z : ◌≡◌ {A = Bool} true false = cc in absurd (true≢false z)
+found_vid [] vid v h = absurd (none-some v h)
 found_vid (x ∷ vs) vid v h = go (found_vid vs vid v) (eqb x.vid vid) refl h
   where
     go : (vlan_of vs vid ≡ Some v → v.vid ≡ vid) → (b : Bool) → eqb x.vid vid ≡ b → cond b (Some x) (vlan_of vs vid) ≡ Some v → v.vid ≡ vid
-    go ih true q k = let e : x ≡ v = cc in ap (λ y. y.vid) (sym e) ∙ eqb-true x.vid vid q
+    go ih true q k = ap (λ y. y.vid) (sym (same_Some x v k)) ∙ eqb-true x.vid vid q
     go ih false q k = ih k
 
 pub found_again : (vs : List Vlan) (vid : ℕ) (v : Vlan) → vlan_of vs vid ≡ Some v → vlan_of vs v.vid ≡ Some v
@@ -87,12 +81,8 @@ said is σ f a p (e ∷ es) h =
         record { vid = e.vid; own = y.1; says' = x.1 }
     go ih false q k = ih k
 
-or_true : (b c : Bool) → c ≡ true → cond b true c ≡ true
-or_true true c h = refl
-or_true false c h = h
-
 says_any : (is : Verdict → Bool) (σ : Settings) (f : ℕ) (a : List ℕ) (p : ℕ) (x : StaticEntry) (w : Said is σ f a p) (es : List StaticEntry) → static_of es w.vid a ≡ Some x → any_says is σ es f a p ≡ true
-says_any is σ f a p x w [] h = let z : ◌≡◌ {A = Bool} true false = cc in absurd (true≢false z)
+says_any is σ f a p x w [] h = absurd (none-some x h)
 says_any is σ f a p x w (e ∷ es) h = go (says_any is σ f a p x w es) (eqb e.vid w.vid && bytes_eq e.address a) refl h
   where
     test : ℕ → Bool
@@ -103,7 +93,7 @@ says_any is σ f a p x w (e ∷ es) h = go (says_any is σ f a p x w es) (eqb e.
         let y = and_parts (eqb e.vid w.vid) (bytes_eq e.address a) q in
         let t : test w.vid ≡ true = and_from (bytes_eq e.address a && is_of f (vlan_of σ.vlans w.vid)) (is (verdict_at σ w.vid a p)) (and_from (bytes_eq e.address a) (is_of f (vlan_of σ.vlans w.vid)) y.1 w.own) w.says' in
         ap (λ b. cond b true (any_says is σ es f a p)) (ap test (eqb-true e.vid w.vid y.0) ∙ t)
-    go ih false q k = or_true (test e.vid) (any_says is σ es f a p) (ih k)
+    go ih false q k = cond_both (test e.vid) true _ (λ x. x ≡ true) (λ _. refl) (λ _. ih k)
 
 -- where nothing is said there is nothing to find, so that the look-up of a VID that says it finds an entry
 any_from : (is : Verdict → Bool) (σ : Settings) (f : ℕ) (a : List ℕ) (p : ℕ) → is Silent ≡ false → Said is σ f a p → any_says is σ σ.statics f a p ≡ true
@@ -124,4 +114,4 @@ any_over is {f} {σ} {τ} s a p n h =
     })
 
 pub any_same : (is : Verdict → Bool) {f : ℕ} {σ τ : Settings} → Alike f σ τ → (a : List ℕ) (p : ℕ) → is Silent ≡ false → any_says is σ σ.statics f a p ≡ any_says is τ τ.statics f a p
-any_same is s a p n = test_same _ _ (any_over is s a p n) (any_over is (flipped s) a p n)
+any_same is s a p n = both_ways _ _ (any_over is s a p n) (any_over is (flipped s) a p n)

@@ -1,21 +1,21 @@
 -- A call that does not concern a filtering database leaves a state that looks to it as before.
 use Rattle.std.proofs.Common.{◌≡◌, ℕ, Bool, true, false, cond, not, ◌&&◌, ◌||◌, ltb, leb, List, [], ◌∷◌, Some, None, Ok, Err, Option, Result, sym, refl, ap, ◌∙◌}
-use Rattle.std.proofs.lemmas.Bool.{true≢false, eqb-false}
+use Rattle.std.proofs.lemmas.Bool.{cond_both, true≢false, eqb-false}
 use Rattle.fault.specs.declared.mark.Mark.{Mark}
 use Rattle.fault.specs.declared.refusal.Refusal.{Refusal}
 use Rattle.fault.specs.declared.refusal.Refusal.TheVariants.{NotStarted, PortOutOfRange, FrameMemoryTooSmall, FrameNotAdmitted, NotMember, PortNotLearning, PortNotForwarding, ReservedDestination, OutputMemoryTooSmall}
 use Rattle.frame.specs.Address.{reserved}
 use Rattle.frame.specs.Reading.{Picture, parse}
-use Rattle.table.specs.Calls.{after_learn, answered, flushed}
+use Rattle.table.specs.Calls.{answered, flushed}
 use Rattle.table.specs.Rising.{rises}
 use Rattle.rules.specs.Ports.{Ports}
 use Rattle.rules.specs.declared.vlans.Vlan.{Vlan}
-use Rattle.rules.specs.Calls.{Call, Outcome, advance, asking, choosing, counted, entering, event, find, finding, flood, flush, flushing, handing, learning, memory_needed, outcome, perform, reading, receive, receiving, relay, send, sending, standing}
+use Rattle.rules.specs.Calls.{Call, Outcome, advance, asking, choosing, counted, entering, event, find, finding, flood, flush, flushing, handing, learning, memory_needed, outcome, perform, reading, receive, receiving, refusing, relay, send, sending, standing}
 use Rattle.rules.specs.Ingress.{admitted, of_member, placed}
 use Rattle.rules.specs.Laws.{concerns, concerns_frame}
 use Rattle.rules.specs.Relay.{any_in, decided, forwards, learnable, learned, learns, mark_of}
 use Rattle.rules.specs.Settings.{Settings, has, is_of, port_of, vlan_of}
-use Rattle.rules.specs.State.{Queued, State, standing_at, state_of, with_entries}
+use Rattle.rules.specs.State.{Queued, State, standing_at, state_of}
 use Rattle.rules.proofs.IsoTable.{view_other_flushed, view_other_learned, view_same}
 use Rattle.rules.proofs.IsoStep.{Same}
 
@@ -24,12 +24,7 @@ same_self f s r = record { started = refl; clock = refl; states = refl; entries 
 
 -- a question, where s is the state that it leaves on a no, and t the state before the call
 ask : (f : ℕ) (b : Bool) (r : Refusal) (s t : State) (o : Outcome) → Same f s t → (b ≡ true → Same f o.after t) → Same f (asking b r s o).after t
-ask f true r s t o h k = k refl
-ask f false r s t o h k = h
-
-either : (f : ℕ) (b : Bool) (o n : Outcome) (t : State) → Same f o.after t → Same f n.after t → Same f (cond b o n).after t
-either f true o n t h k = h
-either f false o n t h k = k
+ask f b r s t o h k = cond_both b o (refusing r s) (λ x. Same f x.after t) k (λ _. h)
 
 second : (x y : Bool) → x ≡ true → (x && y) ≡ false → y ≡ false
 second x y h k = ap (λ b. b && y) (sym h) ∙ k
@@ -38,7 +33,8 @@ second x y h k = ap (λ b. b && y) (sym h) ∙ k
 
 skip_flood : (f : ℕ) (σ : Settings) (s t : State) (q : ℕ) (frame : Picture) (v : Vlan) (priority : ℕ) (mark : Mark) (set : Ports) → Same f s t → Same f (flood σ s q frame v priority mark set).after t
 skip_flood f σ s t q frame v priority mark set h =
-    either f (any_in set.held) _ _ t (record { started = h.started; clock = h.clock; states = h.states; entries = h.entries }) h
+    cond_both (any_in set.held) _ _ (λ (x : Outcome). Same f x.after t)
+    (λ _. record { started = h.started; clock = h.clock; states = h.states; entries = h.entries }) (λ _. h)
 
 skip_relay : (f : ℕ) (σ : Settings) (s t : State) (q : ℕ) (frame : Picture) (v : Vlan) (priority : ℕ) (mark : Mark) → Same f s t → Same f (relay σ s q frame v priority mark).after t
 skip_relay f σ s t q frame v priority mark h =
@@ -47,17 +43,10 @@ skip_relay f σ s t q frame v priority mark h =
     skip_flood f σ s t q frame v priority mark (decided σ s q v frame.destination) h))
 
 skip_learned : (f : ℕ) (σ : Settings) (s : State) (q : ℕ) (v : Vlan) (a : List ℕ) → (v.fid ≡ f → ⊥) → rises s.entries ≡ true → Same f (learned σ s q v a) s
-skip_learned f σ s q v a n r = go (learnable σ v.vid q a)
-  where
-    go : (b : Bool) → Same f (cond b (with_entries s (after_learn σ.share s.entries v.fid a q s.clock)) s) s
-    go true =
-        record {
-          started = refl;
-          clock = refl;
-          states = refl;
-          entries = view_other_learned f σ.share v.fid a q s.clock s.entries n r;
-        }
-    go false = same_self f s r
+skip_learned f σ s q v a n r =
+    cond_both (learnable σ v.vid q a) _ _ (λ x. Same f x s)
+    (λ _. record { started = refl; clock = refl; states = refl; entries = view_other_learned f σ.share v.fid a q s.clock s.entries n r })
+    (λ _. same_self f s r)
 
 skip_learning : (f : ℕ) (σ : Settings) (s : State) (q : ℕ) (frame : Picture) (v : Vlan) (priority : ℕ) → (v.fid ≡ f → ⊥) → rises s.entries ≡ true → Same f (learning σ s q frame v priority).after s
 skip_learning f σ s q frame v priority n r =

@@ -1,5 +1,6 @@
 -- Two sets of entries that one filtering database cannot tell apart, and that stay so.
-use Rattle.std.proofs.Common.{◌≡◌, ℕ, Bool, true, false, cond, ltb, List, length, Some, None, filter, Option, sym, refl, ap, ◌∙◌}
+use Rattle.std.proofs.Common.{◌≡◌, ℕ, Bool, true, false, cond, ltb, List, length, Some, None, Option, sym, refl, ap, ◌∙◌}
+use Rattle.std.proofs.lemmas.Bool.{cond_both}
 use Rattle.table.specs.declared.entry.Entry.{Entry}
 use Rattle.table.specs.Entries.{is_fid, new_entry, lookup, not_of_fid, entries_of, count_of}
 use Rattle.table.specs.Rising.{insert, rises}
@@ -35,12 +36,12 @@ view_flushed f l m v = own_flushed l f ∙ ap (λ z. flushed z f) v.own ∙ sym 
 rises_learn : (share : ℕ) (l : List Entry) (f : ℕ) (a : List ℕ) (p t : ℕ) → rises l ≡ true → rises (after_learn share l f a p t) ≡ true
 rises_learn share l f a p t r =
     let e = new_entry f a p t in
-    let room : (b : Bool) → rises (cond b (insert e l) l) ≡ true = λ b. elim b as (λ b. rises (cond b (insert e l) l) ≡ true) [ true ↦ rises_insert e l r | false ↦ r ] in
+    let room : (b : Bool) → rises (cond b (insert e l) l) ≡ true = λ b. cond_both b _ _ (λ m. rises m ≡ true) (λ _. rises_insert e l r) (λ _. r) in
     let at : (o : Option Entry) → rises (learn_at share l e o) ≡ true = λ o. elim o as (λ o. rises (learn_at share l e o) ≡ true) [ None ↦ room (ltb (count_of f l) share) | Some old ↦ rises_insert e l r ] in
-    elim (is_fid f) as (λ b. rises (cond b (learn_at share l e (lookup l f a)) l) ≡ true) [ true ↦ at (lookup l f a) | false ↦ r ]
+    cond_both (is_fid f) _ _ (λ m. rises m ≡ true) (λ _. at (lookup l f a)) (λ _. r)
 
 rises_flush : (l : List Entry) (f : ℕ) → rises l ≡ true → rises (after_flush l f) ≡ true
-rises_flush l f r = elim (is_fid f) as (λ b. rises (cond b (filter (not_of_fid f) l) l) ≡ true) [ true ↦ rises_kept (not_of_fid f) l r | false ↦ r ]
+rises_flush l f r = cond_both (is_fid f) _ _ (λ m. rises m ≡ true) (λ _. rises_kept (not_of_fid f) l r) (λ _. r)
 
 -- the database's own calls
 

@@ -1,5 +1,5 @@
 -- A port that does not forward has no frame in its queues, at every moment of a run.
-use Rattle.std.proofs.Common.{◌≡◌, ℕ, Bool, true, false, cond, ◌&&◌, eqb, List, [], ◌∷◌, ◌++◌, get_or, set, sym, refl, ap, ◌∙◌, arith, get_or-set_other}
+use Rattle.std.proofs.Common.{◌≡◌, ℕ, Bool, true, false, cond, ◌&&◌, eqb, List, [], ◌∷◌, ◌++◌, length, get_or, set, sym, refl, ap, ◌∙◌, arith, get_or-set_other}
 use Rattle.std.proofs.lemmas.Bool.{and_parts, both_ways, cond-false, cond-true, eqb-false, eqb-true}
 use Rattle.rules.specs.declared.answers.Received.{Received}
 use Rattle.rules.specs.declared.answers.Sent.{Sent}
@@ -9,7 +9,7 @@ use Rattle.rules.specs.Calls.{Answer, Call}
 use Rattle.rules.specs.Egress.{class_of, lays, sendable}
 use Rattle.rules.specs.Relay.{forwards}
 use Rattle.rules.specs.Settings.{Settings}
-use Rattle.rules.specs.State.{Queued, State, at_start, state_of}
+use Rattle.rules.specs.State.{State, at_start, state_of}
 use Rattle.rules.proofs.Effects.{Did, Hands, Lays}
 use Rattle.rules.proofs.Effects.Did.{cleared, handed, laying, rested, shifted}
 
@@ -18,9 +18,6 @@ Quiet s = (p c : ℕ) → forwards (state_of s p) ≡ false → s.queues p c ≡
 
 state_other : (l : List PortState) (p q : ℕ) (new : PortState) → eqb q p ≡ false → get_or (set l p new) q Disabled ≡ get_or l q Disabled
 state_other l p q new e = get_or-set_other l p q new Disabled (eqb-false q p e)
-
-no_frame : {A : Type 0} {x : Queued} {xs l : List Queued} → l ≡ x ∷ xs → l ≡ [] → A
-no_frame e f = let z : ◌≡◌ {A = ℕ} 0 1 = cc in absurd (omega arith)
 
 module _ (s t : State) (quiet : Quiet s) where
   same_quiet : t.states ≡ s.states → (p c : ℕ) → forwards (state_of t p) ≡ false → s.queues p c ≡ []
@@ -45,7 +42,8 @@ module _ (s t : State) (quiet : Quiet s) where
       go : (b : Bool) → (eqb p q && eqb c x.class) ≡ b → t.queues p c ≡ cond b e.rest (s.queues p c) → t.queues p c ≡ []
       go true is now =
           let parts = and_parts _ _ is in
-          no_frame (ap (λ i. s.queues i c) (eqb-true p q parts.0) ∙ ap (s.queues q) (eqb-true c x.class parts.1) ∙ e.stood) none
+          let stood = ap (λ i. s.queues i c) (eqb-true p q parts.0) ∙ ap (s.queues q) (eqb-true c x.class parts.1) ∙ e.stood in
+          absurd (omega (arith, ap length stood, ap length none))
       go false is now = now ∙ none
 
   -- a port's own event leaves nothing there, and another's changes nothing

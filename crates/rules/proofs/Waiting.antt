@@ -1,5 +1,6 @@
 -- Which receipts the frames that stand at a port belong to, and which its deliveries pair with.
 use Rattle.std.proofs.Common.{◌≡◌, ℕ, ◌<◌, true, false, eqb, List, [], ◌∷◌, ◌++◌, length, Some, Ok, ap, ◌∙◌}
+use Rattle.std.proofs.lemmas.List.Elements.{All-head, All-tail}
 use Rattle.frame.specs.Reading.{Picture, parse}
 use Rattle.frame.specs.Writing.{frame_of}
 use Rattle.rules.specs.declared.vlans.Vlan.{Vlan}
@@ -48,8 +49,8 @@ walk_lay r x a (waits b w) = waits b (walk_lay r x a w)
 walk_lay r x a (pairs b w) = pairs b (walk_lay r x a w)
 
 pub walk_hand : {σ : Settings} {p : ℕ} (d : Delivery) (x : Queued) → d.answer.vid ≡ x.vid → d.bytes ≡ x.bytes → d.answer.length ≡ length d.bytes → {ds : List Delivery} {rs : List Receipt} {q : List Queued} → Walk σ p ds rs (x ∷ q) → Before (λ r. r.at) d.at rs → Walk σ p (ds ++ (d ∷ [])) rs q
-walk_hand {σ} {p} d x vid bytes size (waits {r = r} a w) h = pairs (pair_of σ p r x d a h.0 vid bytes size) w
-walk_hand d x vid bytes size (pairs b w) h = pairs b (walk_hand d x vid bytes size w h.1)
+walk_hand {σ} {p} d x vid bytes size (waits {r = r} {rs = rs} a w) h = pairs (pair_of σ p r x d a (All-head (λ z. z.at < d.at) r rs h) vid bytes size) w
+walk_hand d x vid bytes size (pairs {r = r} {rs = rs} b w) h = pairs b (walk_hand d x vid bytes size w (All-tail (λ z. z.at < d.at) r rs h))
 
 pub walk_paired : {σ : Settings} {p : ℕ} {ds : List Delivery} {rs : List Receipt} {q : List Queued} → Walk σ p ds rs q → Paired σ p ds rs
 walk_paired done = tt
