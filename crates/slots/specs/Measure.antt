@@ -1,6 +1,6 @@
 -- The bounds of a stretch of records: how many entries it holds, how many records a search passes until
 -- it has passed every entry from its home on, and the earliest time that an entry was heard.
-use Rattle.std.specs.Prelude.{ℕ, ◌+◌, ◌≤◌, min, max, cond, List, [], ◌∷◌, length}
+use Rattle.std.specs.Prelude.{ℕ, ◌+◌, ◌-◌, ◌^◌, ◌≤◌, min, max, cond, List, [], ◌∷◌, length}
 use Rattle.table.specs.declared.entry.Entry.{Entry}
 use Rattle.table.specs.Entries.{is_free}
 use Rattle.slots.specs.declared.measure.Bounds.{Bounds}
@@ -19,6 +19,13 @@ with_new b steps heard = record { held = b.held + 1; reach = max b.reach (steps 
 
 abbrev pub with_heard : Bounds → ℕ → Bounds
 with_heard b heard = record { held = b.held; reach = b.reach; oldest = min b.oldest heard }
+
+-- One entry more by numbers of 64 bits, of which one that has reached the largest stays there.
+abbrev pub one_more : ℕ → ℕ
+one_more n = min (n + 1) (2 ^ 64 - 1)
+
+abbrev pub with_next : Bounds → ℕ → ℕ → Bounds
+with_next b steps heard = record { held = one_more b.held; reach = max b.reach (one_more steps); oldest = min b.oldest heard }
 
 -- The bounds with the record at i: a free record counts for nothing.
 abbrev pub counted : ℕ → ℕ → Bounds → Entry → Bounds

@@ -1,6 +1,6 @@
 // What is known of a stretch of records without looking at them.
 ghost use Rattle.std.specs.Prelude.{◌≡◌, ◌+◌, ◌<◌, ◌≤◌, nat_le};
-ghost use Rattle.slots.specs.Measure.{counted, empty_bounds, measured, with_heard, with_new};
+ghost use Rattle.slots.specs.Measure.{counted, empty_bounds, measured, with_heard, with_new, with_next};
 
 use crate::hash::{home, steps_to};
 use table::entry::Entry;
@@ -63,7 +63,8 @@ impl Bounds {
     // The bounds with one entry more, so many steps past its home. A number that would be too large stays
     // at the largest one.
     pub fn with_new(self, steps: usize, heard: u64) -> Bounds
-        ensures { self.held < usize.MAX → steps < usize.MAX → result ≡ with_new self steps heard }
+        ensures small { self.held < usize.MAX → steps < usize.MAX → result ≡ with_new self steps heard }
+        ensures exact { result ≡ with_next self steps heard }
     {
         Bounds {
             held: self.held.saturating_add(1),

@@ -43,5 +43,5 @@ returns c =
     let r = added_held xs at e h.2 h.3 u in
     record {
       learned = added r.0 r.1 r.2 r.3 (absent xs e.key.fid e.key.address c.args.bounds.now k c.in_default.ensures) (omega (arith, k.held)) refl;
-      kept = kept_added xs e.key.fid at c.in-Some-vacant.spot.steps c.args.bounds.now _ e k refl h.2 h.3 h.1 h.0 (c.with_new.ensures (omega arith) (omega arith));
+      kept = kept_added xs e.key.fid at c.in-Some-vacant.spot.steps c.args.bounds.now _ e k refl h.2 h.3 h.1 h.0 (c.with_new.ensures.small (omega arith) (omega arith));
     }
