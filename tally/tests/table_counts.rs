@@ -18,6 +18,8 @@ struct Seen {
     refused: u64,
     flushes: u64,
     flushed: u64,
+    expiries: u64,
+    expired: u64,
 }
 
 /// FID and address number to the port and the time last heard.
@@ -49,8 +51,12 @@ impl Model {
         }
     }
 
-    fn expire(&mut self, limit: u64) {
+    fn expire(&mut self, limit: u64, seen: &mut Seen) {
+        let before = self.0.len();
         self.0.retain(|_, (_, heard)| *heard > limit);
+        let gone = (before - self.0.len()) as u64;
+        seen.expiries += u64::from(gone > 0);
+        seen.expired += gone;
     }
 
     fn flush(&mut self, fid: u8, seen: &mut Seen) {
@@ -74,7 +80,7 @@ fn play() -> Seen {
         let draw = dice / 2_048 % 64;
         let there_is = (1..=16).contains(&fid);
         match dice / 128 % 16 {
-            14 => model.expire(now.saturating_sub(2 * draw)),
+            14 => model.expire(now.saturating_sub(2 * draw), &mut seen),
             _ if !there_is => seen.refused += 1,
             0..=6 => model.find(fid, address, &mut seen),
             7..=13 => model.learn(fid, address, draw % 2, now, &mut seen),
@@ -99,6 +105,8 @@ fn the_counts_of_the_long_run() {
         refused: 1_427,
         flushes: 366,
         flushed: 796,
+        expiries: 182,
+        expired: 790,
     };
     assert_eq!(play(), expected);
 }

@@ -1,9 +1,10 @@
 -- A call on the stretch of one database, seen as a call on the whole table.
-use Rattle.std.proofs.Common.{◌≡◌, ℕ, ◌+◌, ◌-◌, ◌*◌, ◌<◌, ◌≤◌, Bool, true, false, cond, not, eqb, ltb, List, [], ◌∷◌, ◌++◌, length, get_or, set, filter, sym, refl, ap, ◌∙◌, subst, arith}
+use Rattle.std.proofs.Common.{◌≡◌, ℕ, ◌+◌, ◌-◌, ◌*◌, ◌<◌, ◌≤◌, Bool, true, false, cond, not, eqb, ltb, List, [], ◌∷◌, ◌++◌, length, map, get_or, set, filter, sym, refl, ap, ◌∙◌, subst, arith}
 use borrow.Rule.Slice.PartMut.{put_mid}
 use Rattle.std.specs.List.{between}
-use Rattle.std.proofs.lemmas.List.{get_or_default}
+use Rattle.std.proofs.lemmas.List.{get_or_default, length-append}
 use Rattle.std.proofs.lemmas.List.Elements.{filter_agree}
+use Rattle.std.proofs.lemmas.List.Filters.{length-filter_both}
 use Rattle.std.proofs.lemmas.Bool.Decides.{nat_tests}
 use Rattle.fault.specs.declared.mark.Mark.{Mark}
 use Rattle.table.specs.declared.entry.Entry.{Entry}
@@ -13,13 +14,15 @@ use Rattle.table.specs.Records.{distinct, held_of}
 use Rattle.table.proofs.Records.{kept_both}
 use Rattle.table.proofs.Rising.{look_rising}
 use Rattle.slots.specs.declared.measure.Bounds.{Bounds}
-use Rattle.slots.specs.Measure.{empty_bounds}
+use Rattle.slots.specs.Measure.{empty_bounds, measured}
+use Rattle.slots.specs.Sweep.{heard_later}
 use Rattle.hashed.specs.declared.hashed.Hashed.{Hashed}
 use Rattle.hashed.specs.declared.row.Row.{Row}
 use Rattle.hashed.specs.Stretch.{Kept, Learned}
 use Rattle.hashed.specs.Layout.{start_of, stretch_of, spared, Laid}
 use Rattle.hashed.specs.Sets.{set_of}
-use Rattle.hashed.proofs.Kept.{none_due}
+use Rattle.hashed.proofs.Held.{held_swept}
+use Rattle.hashed.proofs.Kept.{kept_swept, none_due}
 use Rattle.hashed.proofs.Clear.{Whole, count_mid, distinct_mid, learned, look_mid, only, sieve_mid}
 use Rattle.hashed.proofs.Cut.{put, count_row, held_cut, held_put, before, after, clear_before, clear_after, length_stretch, laid_put}
 
@@ -112,6 +115,33 @@ none_gone s limit g d lt n due =
     let xs = s.records.now in
     let late : limit < (get_or s.bounds g empty_bounds).oldest = rw (get_or_default s.bounds g empty_bounds d (omega arith)) due in
     held_cut s.share g xs ∙ ap (λ l. before s.share g xs ++ (l ++ after s.share g xs)) (sym (none_due limit (g + 1) _ _ (s.laid g lt) late)) ∙ sieved s (g + 1) g (heard_after limit) lt refl
+
+-- as many entries leave the table as leave a stretch that is swept, and so its bounds tell how many
+
+held_in : {s : Hashed} {g a b : ℕ} → Cuts s g a b → (ys : List Entry) → length (held_of (put_mid a (b - a) s.records.now ys)) + length (held_of (between a b s.records.now)) ≡ length (held_of ys) + length (held_of s.records.now)
+held_in {s} {g} r ys =
+    let xs = s.records.now in
+    let mid = held_of (stretch_of s.share g xs) in
+    omega (
+      arith,
+      ap (λ l. length (held_of l)) (part_is r),
+      ap length (ap held_of (put_is r ys) ∙ held_put s.share g xs ys),
+      ap length (held_cut s.share g xs),
+      length-append (before s.share g xs) (held_of ys ++ after s.share g xs),
+      length-append (held_of ys) (after s.share g xs),
+      length-append (before s.share g xs) (mid ++ after s.share g xs),
+      length-append mid (after s.share g xs),
+    )
+
+pub swept_in : {s : Hashed} {g a b : ℕ} → Cuts s g a b → (limit : ℕ) (ys : List Entry) (d e : Bounds) → length s.bounds ≡ 16 → ys ≡ map (heard_later limit) (between a b s.records.now) → e ≡ measured ys
+    → (e.held ≤ (get_or s.bounds g d).held) × ((get_or s.bounds g d).held - e.held + length (held_of (put_mid a (b - a) s.records.now ys)) ≡ length (held_of s.records.now))
+swept_in {s} {g} {a} {b} r limit ys d e n w m =
+    let part = between a b s.records.now in
+    let below = r.below in
+    let was : (get_or s.bounds g d).held ≡ length (held_of part) = ap (λ x. x.held) (get_or_default s.bounds g d empty_bounds (omega arith)) ∙ (kept_part r).held in
+    let is : e.held ≡ length (held_of ys) = rw (m, w) (kept_swept limit (g + 1) _ _ (kept_part r)).held in
+    let few : length (held_of ys) ≤ length (held_of part) = omega (arith, ap (λ l. length (held_of l)) w, ap length (held_swept limit part), length-filter_both (heard_after limit) (λ x. not (heard_after limit x)) (λ x. refl) (held_of part)) in
+    (omega arith, omega (arith, held_in r ys))
 
 -- expire, row by row: the databases up to g are rid of what was heard at the limit or before it
 abbrev pub spared_to : ℕ → ℕ → Entry → Bool

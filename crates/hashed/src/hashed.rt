@@ -100,19 +100,23 @@ impl<'a> Hashed<'a> {
         mem::replace(&mut self.bounds[row.index], Bounds::empty()).held
     }
 
-    // Frees the records of one stretch that were heard at the limit or before it. The bounds are then
-    // measured anew, so that what went away does not make later searches longer.
-    fn expire_row(&mut self, row: Row, limit: u64)
+    // Frees the records of one stretch that were heard at the limit or before it, and says how many entries
+    // those held. The bounds are then measured anew, so that what went away does not make later searches longer.
+    fn expire_row(&mut self, row: Row, limit: u64) -> usize
+        ensures gone { result + length (held_of self.new.records.now) ≡ length (held_of self.old.records.now) }
         ensures share { self.new.share ≡ self.old.share }
         ensures swept { held_of self.new.records.now ≡ filter (spared limit (row.index + 1)) (held_of self.old.records.now) }
     {
-        if !self.bounds[row.index].is_due(limit) {
-            return;
+        let before = self.bounds[row.index];
+        if !before.is_due(limit) {
+            return 0;
         }
         let stretch = self.stretch(row);
         let records = &mut self.records[stretch];
         sweep(records, limit);
-        self.bounds[row.index] = Bounds::of(records);
+        let after = Bounds::of(records);
+        self.bounds[row.index] = after;
+        before.held - after.held
     }
 }
 
@@ -136,11 +140,13 @@ impl<'a> Table for Hashed<'a> {
     }
 
     #[tactic(auto, using(crate::proofs::Calls::none_yet, crate::proofs::Calls::one_more))]
-    fn expire(&mut self, limit: u64) {
+    fn expire(&mut self, limit: u64) -> usize {
+        let mut gone = 0;
         // By row: a share may be 0, and there is no going over chunks of 0 records.
         for index in 0..16 {
-            self.expire_row(Row { index }, limit);
+            gone += self.expire_row(Row { index }, limit);
         }
+        gone
     }
 
     fn flush(&mut self, fid: u8) -> Result<usize, Refusal> {

@@ -10,10 +10,10 @@ use Rattle.fault.specs.declared.mark.Mark.{Mark}
 use Rattle.fault.specs.declared.mark.Mark.TheVariants.{New, Known, Moved, Full, Unlearned}
 use Rattle.table.specs.declared.entry.Entry.{Entry}
 use Rattle.table.specs.Entries.{new_entry}
-use Rattle.table.specs.Calls.{answered, marked, after_learn, after_expire, after_flush}
+use Rattle.table.specs.Calls.{answered, marked, after_learn, expired, after_expire, after_flush}
 use Rattle.table.proofs.Records.{key_is, key_sym}
 use Rattle.table.proofs.Views.{view_flush, view_answer}
-use Rattle.table.proofs.After.{answer_other, answer_known, after_full, answer_expired}
+use Rattle.table.proofs.After.{answer_other, answer_known, after_full, answer_expired, expired_none}
 use Rattle.recent.specs.declared.remembered.Remembered.{Remembered}
 use Rattle.recent.specs.Remembered.{alters, is_of, in_fid, has_port, or_else, recalled, left}
 use Rattle.recent.specs.Right.{RightAt, AllRight, Right, IsRight}
@@ -134,3 +134,7 @@ forgets_flushed l k ms ns f e h r = shut _ k _ ns h e (right_flush l f ms (opene
 
 pub forgets_expired : (l k : List Entry) (ms ns : List (Option Remembered)) (limit : ℕ) → ns ≡ map (left has_port) ms → k ≡ after_expire limit l → Right l ms → Right k ns
 forgets_expired l k ms ns limit e h r = shut _ k _ ns h e (right_expire l limit ms (opened l ms r))
+
+-- where nothing expired, every answer is as it was
+pub none_expired : (l k : List Entry) (ms : List (Option Remembered)) (limit : ℕ) → k ≡ after_expire limit l → expired limit l ≡ 0 → Right l ms → Right k ms
+none_expired l k ms limit e n r = shut l k ms ms (e ∙ expired_none limit l n) refl (opened l ms r)

@@ -60,9 +60,13 @@ impl<T: Table> Table for Recent<T> {
         Ok(mark)
     }
 
-    fn expire(&mut self, limit: u64) {
-        self.table.expire(limit);
-        forget(&mut self.slots, |answer| answer.port.is_some());
+    #[tactic(auto, using(crate::proofs::Rights::none_expired))]
+    fn expire(&mut self, limit: u64) -> usize {
+        let gone = self.table.expire(limit);
+        if gone > 0 {
+            forget(&mut self.slots, |answer| answer.port.is_some());
+        }
+        gone
     }
 
     fn flush(&mut self, fid: u8) -> Result<usize, Refusal> {

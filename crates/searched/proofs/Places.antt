@@ -1,16 +1,20 @@
--- The place of a pair among the entries, and its entry written anew there.
-use Rattle.std.proofs.Common.{◌≡◌, ℕ, List, [], ◌∷◌, get_or, set, Some, Option, sym, refl, ap, ◌∙◌, arith}
+-- The place of a pair among the entries, its entry written anew there, and the entries of a database.
+use Rattle.std.proofs.Common.{◌≡◌, ℕ, List, [], ◌∷◌, length, get_or, set, Some, Option, sym, refl, ap, ◌∙◌, arith}
 use Rattle.std.proofs.lemmas.Bool.Decides.{nat_tests}
 use Rattle.std.proofs.lemmas.List.Folds.{find_at}
 use Rattle.std.proofs.lemmas.Option.{cond_some, slice_get-get_or, slice_get_past}
 use Rattle.std.specs.List.{position, position_or_len}
 use Rattle.std.specs.Option.{option_map}
 use Rattle.table.specs.declared.entry.Entry.{Entry}
-use Rattle.table.specs.Entries.{new_entry, has_key, lookup}
+use Rattle.table.specs.Entries.{new_entry, has_key, lookup, entries_of, count_of}
 use Rattle.table.specs.Records.{rewritten}
 use Rattle.table.specs.Rising.{insert, rising}
 use Rattle.table.proofs.Records.{holds_some}
-use Rattle.table.proofs.Rising.{look_rising, rising_written}
+use Rattle.table.proofs.Rising.{look_rising, count_rising, rising_written}
+use Rattle.table.proofs.Views.{view_count}
+use Rattle.searched.specs.declared.searched.Searched.{Searched}
+use Rattle.searched.specs.Records.{taken}
+use Rattle.searched.specs.Sets.{set_of}
 
 placed : (l : List Entry) (f : ℕ) (a : List ℕ) (d : Entry) → lookup l f a ≡ option_map (λ i. get_or l i d) (position (has_key f a) l)
 placed l f a d =
@@ -32,3 +36,9 @@ written_at l f a p t was place = sym (written l f a p t ∙ ap (λ k. set l k (n
 
 pub renewed_at : (l : List Entry) (f : ℕ) (a : List ℕ) (p t : ℕ) {i : ℕ} {r : Option ℕ} → r ≡ Some i → r ≡ position (has_key f a) l → rising (set l i (new_entry f a p t)) ≡ insert (new_entry f a p t) (rising l)
 renewed_at l f a p t was place = ap rising (written_at l f a p t was place) ∙ rising_written l f a p t (holds_some l f a _ (sym (look_rising l f a) ∙ looked l f a (new_entry f a p t) was place))
+
+-- the entries of a database among the records are as many as in the set
+pub counted : (s : Searched) (f : ℕ) → length (entries_of f (taken s.rows)) ≡ count_of f (set_of s)
+counted s f =
+    let l = taken s.rows in
+    sym (count_rising f l s.apart ∙ view_count f l)

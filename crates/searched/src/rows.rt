@@ -12,7 +12,7 @@ pub struct Rows<'a> {
 }
 
 impl<'a> Rows<'a> {
-    ghost use Rattle.std.specs.Prelude.{◌≡◌, ◌<◌, Bool, [], ◌∷◌, ◌++◌, filter, position, slice_set};
+    ghost use Rattle.std.specs.Prelude.{◌≡◌, ◌+◌, ◌<◌, Bool, [], ◌∷◌, ◌++◌, filter, position, slice_set};
     ghost use Rattle.table.specs.Entries.{entries_of, has_key};
     ghost use Rattle.table.specs.declared.entry.Entry.{Entry};
     ghost use Rattle.searched.specs.Records.{Computes, oldest_of, taken};
@@ -48,12 +48,13 @@ impl<'a> Rows<'a> {
             .unwrap_or(u64::MAX)
     }
 
-    // Removes the entries that do not pass, and moves the others up. `test` is what the closure says of
-    // each entry.
-    pub(crate) fn retain<F: Fn(&Entry) -> bool>(&mut self, keep: F)
+    // Removes the entries that do not pass, moves the others up, and says how many went. `test` is what the
+    // closure says of each entry.
+    pub(crate) fn retain<F: Fn(&Entry) -> bool>(&mut self, keep: F) -> usize
         ghost test: { Entry → Bool }
         requires callable { F.IsAlwaysCallable keep }
         requires tests { Computes (F.post keep) test }
+        ensures gone { result + self.new.used ≡ self.old.used }
         ensures later { taken self.new ≡ filter test (taken self.old) }
         ensures room { length self.new.all.now ≡ length self.old.all.now }
     {
@@ -66,7 +67,9 @@ impl<'a> Rows<'a> {
                 kept += 1;
             }
         }
+        let gone = self.used - kept;
         self.used = kept;
+        gone
     }
 
     // Writes an entry in the place of another.

@@ -27,7 +27,7 @@ pub struct Searched<'a> {
 }
 
 impl<'a> Searched<'a> {
-    ghost use Rattle.std.specs.Prelude.{◌/◌, min, Bool, false, [], replicate, None, filter, nat_le};
+    ghost use Rattle.std.specs.Prelude.{◌+◌, ◌/◌, min, Bool, false, [], replicate, None, filter, nat_le};
     ghost use Rattle.table.specs.Calls.{after_expire, port_of};
     ghost use Rattle.table.specs.Entries.{free_entry, is_fid, lookup};
     ghost use Rattle.table.specs.Rising.{insert};
@@ -74,17 +74,12 @@ impl<'a> Searched<'a> {
         Some(mark)
     }
 
-    fn count(&self, fid: u8) -> usize
-        ensures { result ≡ count_of fid (set_of self.now) }
-    {
-        self.rows.count(fid)
-    }
-
     // Whether a database has its share of entries.
+    #[tactic(auto, using(crate::proofs::Places::counted))]
     fn is_full(&self, fid: u8) -> bool
         ensures { result ≡ nat_le self.now.share (count_of fid (set_of self.now)) }
     {
-        self.count(fid) >= self.share
+        self.rows.count(fid) >= self.share
     }
 
     // Adds the entry of a pair that has none, where there is room for it.
@@ -107,17 +102,20 @@ impl<'a> Searched<'a> {
         self.oldest <= limit
     }
 
-    // Removes the entries that do not pass, where `test` is what the closure says of each entry.
-    fn remove<F: Fn(&Entry) -> bool>(&mut self, keep: F)
+    // Removes the entries that do not pass, where `test` is what the closure says of each entry, and says how
+    // many there were.
+    fn remove<F: Fn(&Entry) -> bool>(&mut self, keep: F) -> usize
         ghost test: { Entry → Bool }
         requires callable { F.IsAlwaysCallable keep }
         requires tests { Computes (F.post keep) test }
+        ensures gone { result + length (set_of self.new) ≡ length (set_of self.old) }
         ensures later { set_of self.new ≡ filter test (set_of self.old) }
         ensures share { self.new.share ≡ self.old.share }
         ensures oldest { self.new.oldest ≡ oldest_of (taken self.new.rows) }
     {
-        self.rows.retain(keep);
+        let gone = self.rows.retain(keep);
         self.oldest = self.rows.oldest();
+        gone
     }
 }
 
@@ -153,16 +151,17 @@ impl<'a> Table for Searched<'a> {
         Ok(Mark::New)
     }
 
-    fn expire(&mut self, limit: u64) {
-        if self.is_due(limit) {
-            self.remove(|e| limit < e.heard);
+    #[tactic(auto, using(table::proofs::After::all_stay, table::proofs::After::expired_rest))]
+    fn expire(&mut self, limit: u64) -> usize {
+        if !self.is_due(limit) {
+            return 0;
         }
+        self.remove(|e| limit < e.heard)
     }
 
+    #[tactic(auto, using(table::proofs::Records::count_flush))]
     fn flush(&mut self, fid: u8) -> Result<usize, Refusal> {
         Fid::try_from(fid)?;
-        let gone = self.count(fid);
-        self.remove(|e| e.key.fid != fid);
-        Ok(gone)
+        Ok(self.remove(|e| e.key.fid != fid))
     }
 }

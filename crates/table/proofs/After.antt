@@ -1,11 +1,12 @@
 -- What the mark of a learn says, and what find answers after each call.
-use Rattle.std.proofs.Common.{◌≡◌, ℕ, Bool, true, false, ltb, List, [], ◌∷◌, None, Ok, filter, refl, arith}
+use Rattle.std.proofs.Common.{◌≡◌, ℕ, ◌+◌, Bool, true, false, ltb, List, [], ◌∷◌, length, None, Ok, filter, refl, ap, arith}
 use Rattle.std.proofs.lemmas.Bool.Decides.{nat_tests}
+use Rattle.std.proofs.lemmas.List.Filters.{length-filter_both}
 use Rattle.fault.specs.declared.mark.Mark.{Mark}
 use Rattle.fault.specs.declared.mark.Mark.TheVariants.{Known, Full}
 use Rattle.table.specs.declared.entry.Entry.{Entry}
 use Rattle.table.specs.Entries.{is_fid, new_entry, has_key, lookup, count_of}
-use Rattle.table.specs.Calls.{answered, mark_at, marked, after_learn, heard_after, after_expire}
+use Rattle.table.specs.Calls.{answered, mark_at, marked, after_learn, heard_by, heard_after, expired, after_expire}
 use Rattle.table.proofs.Records.{key_is}
 use Rattle.table.proofs.Rising.{look_insert}
 
@@ -40,3 +41,17 @@ look_kept_none q (e ∷ es) f a h = grind (arith, look_kept_none q es f a)
 
 pub answer_expired : (limit : ℕ) (l : List Entry) (f : ℕ) (a : List ℕ) → answered l f a ≡ Ok None → answered (after_expire limit l) f a ≡ Ok None
 answer_expired limit l f a h = grind (arith, look_kept_none (heard_after limit) l f a)
+
+-- expire: what goes and what stays are all that there was
+
+pub expired_rest : (limit : ℕ) (l : List Entry) → length (after_expire limit l) + expired limit l ≡ length l
+expired_rest limit l = length-filter_both (heard_after limit) (heard_by limit) (λ e. grind (arith, nat_tests)) l
+
+-- where all stay, none goes, and the other way round
+
+pub all_stay : (limit : ℕ) (l : List Entry) → l ≡ after_expire limit l → expired limit l ≡ 0
+all_stay limit l h = omega (arith, ap length h, expired_rest limit l)
+
+pub expired_none : (limit : ℕ) (l : List Entry) → expired limit l ≡ 0 → after_expire limit l ≡ l
+expired_none limit [] h = refl
+expired_none limit (e ∷ es) h = grind (arith, nat_tests, expired_none limit es)

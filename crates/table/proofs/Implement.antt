@@ -1,14 +1,14 @@
 -- For tables that keep entries l in any order, no two of one pair: what they answer and leave is what the rising list of l says.
-use Rattle.std.proofs.Common.{◌≡◌, ℕ, ◌<◌, ◌≤◌, Bool, true, false, List, ◌∷◌, ◌++◌, Some, None, Ok, filter, Option, sym, ap, ◌∙◌, arith}
+use Rattle.std.proofs.Common.{◌≡◌, ℕ, ◌+◌, ◌<◌, ◌≤◌, Bool, true, false, List, ◌∷◌, ◌++◌, length, Some, None, Ok, filter, Option, sym, ap, ◌∙◌, arith}
 use Rattle.std.proofs.lemmas.Bool.Decides.{nat_tests}
 use Rattle.fault.specs.declared.mark.Mark.{Mark}
 use Rattle.table.specs.declared.entry.Entry.{Entry}
 use Rattle.table.specs.Entries.{is_fid, new_entry, lookup, not_of_fid, count_of, fids_in_range}
 use Rattle.table.specs.Rising.{rising}
 use Rattle.table.specs.Calls.{mark_at, marked, after_learn, flushed, after_flush}
-use Rattle.table.specs.Records.{holds, rewritten, Orderly}
-use Rattle.table.proofs.Records.{holds_some, holds_none, holds_front}
-use Rattle.table.proofs.Rising.{look_rising, count_rising, kept_rising, range_rising, rising_in, rising_written}
+use Rattle.table.specs.Records.{distinct, holds, rewritten, Orderly}
+use Rattle.table.proofs.Records.{distinct_kept, holds_some, holds_none, holds_front}
+use Rattle.table.proofs.Rising.{look_rising, count_rising, size_rising, kept_rising, range_rising, rising_in, rising_written}
 
 pub fair_rising : (share : ℕ) (l : List Entry) → Orderly share l → (f : ℕ) → count_of f (rising l) ≤ share
 fair_rising share l o f = omega (arith, count_rising f l o.apart, o.fair f)
@@ -39,6 +39,12 @@ full_is share l f a p t r d h c = grind (arith, nat_tests, look_rising l f a, co
 
 pub kept_is : (share : ℕ) (p : Entry → Bool) (l m : List Entry) → Orderly share l → m ≡ filter p l → rising m ≡ filter p (rising l)
 kept_is share p l m d e = ap rising e ∙ sym (kept_rising p l d.apart)
+
+-- as many go from the set as from the records
+pub gone_is : (share : ℕ) (p : Entry → Bool) (l m : List Entry) (n : ℕ) → Orderly share l → m ≡ filter p l → n + length m ≡ length l → n + length (rising m) ≡ length (rising l)
+gone_is share p l m n d e h =
+    let apart : distinct m ≡ true = ap distinct e ∙ distinct_kept p l d.apart in
+    omega (arith, h, size_rising l d.apart, size_rising m apart)
 
 pub flush_is : (share : ℕ) (l m : List Entry) (f : ℕ) → is_fid f ≡ true → Orderly share l → m ≡ filter (not_of_fid f) l → rising m ≡ after_flush (rising l) f
 flush_is share l m f r d e = grind (arith, kept_is share (not_of_fid f) l m d e)

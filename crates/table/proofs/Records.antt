@@ -62,7 +62,7 @@ pub holds_kept : (p : Entry → Bool) (l : List Entry) (f : ℕ) (a : List ℕ) 
 holds_kept p [] f a h = refl
 holds_kept p (e ∷ es) f a h = grind (arith, holds_kept p es f a)
 
-distinct_kept : (p : Entry → Bool) (l : List Entry) → distinct l ≡ true → distinct (filter p l) ≡ true
+pub distinct_kept : (p : Entry → Bool) (l : List Entry) → distinct l ≡ true → distinct (filter p l) ≡ true
 distinct_kept p [] h = refl
 distinct_kept p (e ∷ es) h = grind (arith, distinct_kept p es, holds_kept p es e.key.fid e.key.address)
 

@@ -1,5 +1,5 @@
 -- Rising lists: inserting, looking up, counting, filtering, and the rising list of entries in any order.
-use Rattle.std.proofs.Common.{◌≡◌, ℕ, Bool, true, false, cond, List, [], ◌∷◌, ◌++◌, Some, filter, Ordering, Less, Equal, sym, refl, ap, ◌∙◌, arith}
+use Rattle.std.proofs.Common.{◌≡◌, ℕ, Bool, true, false, cond, List, [], ◌∷◌, ◌++◌, length, Some, filter, Ordering, Less, Equal, sym, refl, ap, ◌∙◌, arith}
 use Rattle.std.specs.Ordering.{is_lt}
 use Rattle.std.specs.Option.{is_some}
 use Rattle.table.specs.declared.entry.Entry.{Entry}
@@ -53,6 +53,14 @@ count_insert g e (x ∷ l) h = grind (arith, count_insert g e l, absent e x l)
 pub count_rising : (g : ℕ) (l : List Entry) → distinct l ≡ true → count_of g (rising l) ≡ count_of g l
 count_rising g [] h = refl
 count_rising g (e ∷ es) h = grind (arith, count_rising g es, count_insert g e (rising es), holds_rising es e.key.fid e.key.address)
+
+size_insert : (e : Entry) (l : List Entry) → holds l e.key.fid e.key.address ≡ false → length (insert e l) ≡ length (e ∷ l)
+size_insert e [] h = refl
+size_insert e (x ∷ l) h = grind (arith, size_insert e l, absent e x l)
+
+pub size_rising : (l : List Entry) → distinct l ≡ true → length (rising l) ≡ length l
+size_rising [] h = refl
+size_rising (e ∷ es) h = grind (arith, size_rising es, size_insert e (rising es), holds_rising es e.key.fid e.key.address)
 
 -- the list rises
 

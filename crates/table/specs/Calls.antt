@@ -1,6 +1,6 @@
 -- What each call of a table answers, and which set it leaves. A call for a filtering database that
 -- there is not is refused, and leaves the set as it was.
-use Rattle.std.specs.Prelude.{ℕ, Bool, cond, List, Some, None, Ok, Err, filter, Option, Result, ◌==◌, nat_lt}
+use Rattle.std.specs.Prelude.{ℕ, Bool, cond, List, Some, None, Ok, Err, filter, length, Option, Result, ◌==◌, nat_le, nat_lt}
 use Rattle.fault.specs.declared.mark.Mark.{Mark}
 use Rattle.fault.specs.declared.mark.Mark.TheVariants.{New, Known, Moved, Full}
 use Rattle.fault.specs.declared.refusal.Refusal.{Refusal}
@@ -40,11 +40,17 @@ learn_at share l e (Some old) = insert e l
 abbrev pub after_learn : ℕ → List Entry → ℕ → List ℕ → ℕ → ℕ → List Entry
 after_learn share l f a p t = cond (is_fid f) (learn_at share l (new_entry f a p t) (lookup l f a)) l
 
--- The entry was heard after the limit.
+-- The entry was heard at the limit or before it; or after it.
+abbrev pub heard_by : ℕ → Entry → Bool
+heard_by limit e = nat_le e.heard limit
+
 abbrev pub heard_after : ℕ → Entry → Bool
 heard_after limit e = nat_lt limit e.heard
 
--- What `expire` leaves.
+-- What `expire` answers, and what it leaves.
+abbrev pub expired : ℕ → List Entry → ℕ
+expired limit l = length (filter (heard_by limit) l)
+
 abbrev pub after_expire : ℕ → List Entry → List Entry
 after_expire limit l = filter (heard_after limit) l
 

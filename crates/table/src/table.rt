@@ -3,7 +3,7 @@
 ghost use Rattle.std.specs.Prelude.{◌≡◌, ℕ, ◌≤◌, true, List};
 ghost use Rattle.table.specs.Entries.{count_of, fids_in_range};
 ghost use Rattle.table.specs.Rising.{rises};
-ghost use Rattle.table.specs.Calls.{after_expire, after_flush, after_learn, answered, flushed, marked};
+ghost use Rattle.table.specs.Calls.{after_expire, after_flush, after_learn, answered, expired, flushed, marked};
 ghost use Rattle.table.specs.declared.entry.Entry.{Entry};
 
 use crate::entry::{Entry, Key};
@@ -29,8 +29,9 @@ pub trait Table {
         ensures later { entries self.new ≡ after_learn (share self.old) (entries self.old) entry.key.fid entry.key.address entry.port entry.heard }
         ensures share { share self.new ≡ share self.old };
 
-    // Removes the entries that were heard at the limit or before it.
-    fn expire(&mut self, limit: u64)
+    // Removes the entries that were heard at the limit or before it, and says how many there were.
+    fn expire(&mut self, limit: u64) -> usize
+        ensures answer { result ≡ expired limit (entries self.old) }
         ensures later { entries self.new ≡ after_expire limit (entries self.old) }
         ensures share { share self.new ≡ share self.old };
 

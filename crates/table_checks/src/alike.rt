@@ -49,6 +49,9 @@ struct Seen {
     flushes: u64,
     // How many entries the flushes took.
     flushed: u64,
+    // Expiries that took something, and how many entries they took.
+    expiries: u64,
+    expired: u64,
 }
 
 fn one_more(count: &mut u64) {
@@ -68,6 +71,10 @@ impl Seen {
             Ok(Answer::Removed(gone)) => if gone > 0 {
                 one_more(&mut self.flushes);
                 self.flushed = self.flushed.saturating_add(gone as u64);
+            },
+            Ok(Answer::Expired(gone)) => if gone > 0 {
+                one_more(&mut self.expiries);
+                self.expired = self.expired.saturating_add(gone as u64);
             },
             _ => {}
         }
@@ -98,7 +105,7 @@ fn run<A: Table, B: Table>(rt: &impl Abort, a: &mut A, b: &mut B) -> Seen {
 }
 
 // The numbers are those of tally/tests/table_counts.rs, which plays the same run at a plain map. Each kind of
-// answer came often, and 790 entries expired: those that were new and were not flushed.
+// answer came often, and what was new was flushed or expired.
 const COUNTS: Seen = Seen {
     new: 1586,
     known: 320,
@@ -109,6 +116,8 @@ const COUNTS: Seen = Seen {
     refused: 1427,
     flushes: 366,
     flushed: 796,
+    expiries: 182,
+    expired: 790,
 };
 
 // A test for each kind, whose name says which table failed.

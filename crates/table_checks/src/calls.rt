@@ -21,8 +21,7 @@ pub enum Call {
 pub enum Answer {
     Found(Option<u8>),
     Marked(Mark),
-    // Expire says nothing.
-    Done,
+    Expired(usize),
     Removed(usize),
 }
 
@@ -40,10 +39,7 @@ pub fn ask<T: Table>(table: &mut T, call: Call) -> Result<Answer, Refusal> {
             let key = Key { fid, address };
             Answer::Marked(laws::learn(table, Entry { key, port, heard })?)
         }
-        Call::Expire(limit) => {
-            laws::expire(table, limit);
-            Answer::Done
-        }
+        Call::Expire(limit) => Answer::Expired(laws::expire(table, limit)),
         Call::Flush(fid) => Answer::Removed(laws::flush(table, fid)?),
     })
 }

@@ -38,8 +38,8 @@ impl<'a, T: Table> Table for Counting<'a, T> {
         self.table.learn(entry)
     }
 
-    fn expire(&mut self, limit: u64) {
-        self.table.expire(limit);
+    fn expire(&mut self, limit: u64) -> usize {
+        self.table.expire(limit)
     }
 
     fn flush(&mut self, fid: u8) -> Result<usize, Refusal> {
@@ -77,7 +77,7 @@ fn forgotten_by<T: Table>(table: &mut T, finds: &Cell<u32>, call: Call) -> u32 {
 }
 
 // Each call with how many answers it makes the list forget. A database has room for two addresses.
-const CALLS: [(Call, u32); 8] = [
+const CALLS: [(Call, u32); 9] = [
     // After a flush nothing is remembered.
     (Call::Flush(1), 4),
     // New: the pair itself. The other three are still not known.
@@ -91,8 +91,10 @@ const CALLS: [(Call, u32); 8] = [
     (Call::Learn(1, [2, 0, 0, 0, 0, 0], 9, 14), 1),
     // Another database's flush: nothing.
     (Call::Flush(2), 0),
-    // An expiry: the two that are known, though neither was due.
-    (Call::Expire(1), 2),
+    // Nothing was due: nothing.
+    (Call::Expire(11), 0),
+    // One of the two that are known was due: both.
+    (Call::Expire(12), 2),
 ];
 
 fn forgets_what_may_differ<T: Table>(

@@ -1,5 +1,5 @@
 -- The laws of each call, from what it answers and leaves.
-use Rattle.std.proofs.Common.{◌≡◌, ℕ, ◌+◌, Bool, true, false, cond, eqb, ltb, List, [], ◌∷◌, Some, None, Ok, Err, Option, Result, Ordering, Less, Equal, Greater, sym, refl, ap, ◌∙◌, subst, arith}
+use Rattle.std.proofs.Common.{◌≡◌, ℕ, ◌+◌, Bool, true, false, cond, eqb, ltb, List, [], ◌∷◌, length, Some, None, Ok, Err, Option, Result, Ordering, Less, Equal, Greater, sym, refl, ap, ◌∙◌, subst, arith}
 use Rattle.std.specs.Ordering.{is_eq, is_lt}
 use Rattle.std.proofs.lemmas.Bool.{and_parts, and_from, ltb-false, eq-eqb, both_ways, false_from_ne_true, true≢false}
 use Rattle.fault.specs.declared.mark.Mark.TheVariants.{New, Known, Moved, Full}
@@ -9,20 +9,21 @@ use Rattle.table.specs.declared.entry.Entry.{Entry}
 use Rattle.table.specs.declared.entry.Key.{Key}
 use Rattle.table.specs.Entries.{is_fid, new_entry, has_key, lookup, entries_of, count_of}
 use Rattle.table.specs.Rising.{order, insert_by, insert, comes_before, rises}
-use Rattle.table.specs.Calls.{port_of, answered, mark_at, marked, learn_at, after_learn, heard_after, after_expire, flushed, after_flush}
+use Rattle.table.specs.Calls.{port_of, answered, mark_at, marked, learn_at, after_learn, heard_after, expired, after_expire, flushed, after_flush}
 use Rattle.table.specs.Records.{holds}
 use Rattle.table.proofs.Order.{order_key, key_order}
 use Rattle.table.proofs.Records.{key_is, key_of, holds_none, holds_some, count_kept}
 use Rattle.table.proofs.Rising.{is_less, less_not, before_far, look_insert, count_insert}
 use Rattle.table.proofs.Views.{view_learn, view_flush, view_expire, own_answer, own_mark, own_learn, own_flushed, own_flush, flush_none}
-use Rattle.table.proofs.After.{marked_at, full_at, answer_other}
+use Rattle.table.proofs.After.{marked_at, full_at, answer_other, expired_rest}
 use Rattle.tablelaws.specs.Laws.{Finds, is_new, Expires, Flushes, FoundAfter, FindLaw, LearnLaw, ExpireLaw, FlushLaw}
 
 pub finds : FindLaw
 finds l k f a r e h = record { answer = h ∙ own_answer f a l; same = e }
 
 pub expires : ExpireLaw
-expires limit l k e = record {
+expires limit l k r e h = record {
+  gone = omega (arith, h, ap length e, expired_rest limit l);
   each = λ g. ap (entries_of g) e ∙ view_expire g limit l;
   fewer = λ g. omega (arith, ap (count_of g) e, count_kept (heard_after limit) g l);
 }
@@ -116,8 +117,8 @@ found_own share l f a p t = elim (is_fid f) as (λ b. FoundAfter (cond b (Ok (ma
 pub find_follows : (l : List Entry) (f : ℕ) (a : List ℕ) → Finds l l f a (answered l f a)
 find_follows l f a = finds l l f a (answered l f a) refl refl
 
-pub expire_follows : (limit : ℕ) (l : List Entry) → Expires limit l (after_expire limit l)
-expire_follows limit l = expires limit l (after_expire limit l) refl
+pub expire_follows : (limit : ℕ) (l : List Entry) → Expires limit l (after_expire limit l) (expired limit l)
+expire_follows limit l = expires limit l (after_expire limit l) (expired limit l) refl refl
 
 pub flush_follows : (l : List Entry) (f : ℕ) → Flushes l (after_flush l f) f (flushed l f)
 flush_follows l f = flushes l (after_flush l f) f (flushed l f) refl refl

@@ -1,14 +1,14 @@
 -- What follows from the contract of a table, whichever table it is. In each law, l is the set before the
 -- call and k the set after it. The laws come to this: a call for one filtering database reads the entries
 -- of that database alone and changes them alone, so that databases cannot be told by one another.
-use Rattle.std.specs.Prelude.{◌≡◌, ℕ, ◌+◌, ◌≤◌, Bool, true, false, cond, List, [], Some, None, Ok, Err, Option, Result, ◌≢◌}
+use Rattle.std.specs.Prelude.{◌≡◌, ℕ, ◌+◌, ◌≤◌, Bool, true, false, cond, List, [], length, Some, None, Ok, Err, Option, Result, ◌≢◌}
 use Rattle.fault.specs.declared.mark.Mark.{Mark}
 use Rattle.fault.specs.declared.mark.Mark.TheVariants.{New, Known, Moved, Full, Unlearned}
 use Rattle.fault.specs.declared.refusal.Refusal.{Refusal}
 use Rattle.table.specs.declared.entry.Entry.{Entry}
 use Rattle.table.specs.Entries.{is_fid, entries_of, count_of}
 use Rattle.table.specs.Rising.{rises}
-use Rattle.table.specs.Calls.{answered, marked, after_learn, after_expire, flushed, after_flush}
+use Rattle.table.specs.Calls.{answered, marked, after_learn, expired, after_expire, flushed, after_flush}
 
 -- A find reads the entries of its own database, and changes nothing.
 pub record Finds (l k : List Entry) (f : ℕ) (a : List ℕ) (r : Result (Option ℕ) Refusal) : Type 0 where
@@ -33,8 +33,10 @@ pub record Learns (share : ℕ) (l k : List Entry) (f : ℕ) (a : List ℕ) (p t
   pub full : r ≡ Ok Full → count_of f l ≡ share
   pub count : count_of f k ≡ count_of f l + cond (is_new r) 1 0
 
--- What expires in a database is a matter of its own entries. No database gets more.
-pub record Expires (limit : ℕ) (l k : List Entry) : Type 0 where
+-- What expires in a database is a matter of its own entries. No database gets more. The answer is how many
+-- entries there are fewer.
+pub record Expires (limit : ℕ) (l k : List Entry) (r : ℕ) : Type 0 where
+  pub gone : r + length k ≡ length l
   pub each : (g : ℕ) → entries_of g k ≡ after_expire limit (entries_of g l)
   pub fewer : (g : ℕ) → count_of g k ≤ count_of g l
 
@@ -63,7 +65,7 @@ abbrev pub LearnLaw : Type 0
 LearnLaw = (share : ℕ) (l k : List Entry) (f : ℕ) (a : List ℕ) (p t : ℕ) (r : Result Mark Refusal) → k ≡ after_learn share l f a p t → r ≡ marked share l f a p → rises l ≡ true → ((g : ℕ) → count_of g l ≤ share) → Learns share l k f a p t r
 
 abbrev pub ExpireLaw : Type 0
-ExpireLaw = (limit : ℕ) (l k : List Entry) → k ≡ after_expire limit l → Expires limit l k
+ExpireLaw = (limit : ℕ) (l k : List Entry) (r : ℕ) → k ≡ after_expire limit l → r ≡ expired limit l → Expires limit l k r
 
 abbrev pub FlushLaw : Type 0
 FlushLaw = (l k : List Entry) (f : ℕ) (r : Result ℕ Refusal) → k ≡ after_flush l f → r ≡ flushed l f → Flushes l k f r

@@ -25,10 +25,10 @@ pub fn learn<T: Table>(table: &mut T, entry: Entry) -> Result<Mark, Refusal>
 }
 
 #[tactic(auto, using(crate::proofs::Follow::expire_follows))]
-pub fn expire<T: Table>(table: &mut T, limit: u64)
-    ensures { Expires limit (T.entries table.old) (T.entries table.new) }
+pub fn expire<T: Table>(table: &mut T, limit: u64) -> usize
+    ensures { Expires limit (T.entries table.old) (T.entries table.new) result }
 {
-    table.expire(limit);
+    table.expire(limit)
 }
 
 #[tactic(auto, using(crate::proofs::Follow::flush_follows))]
