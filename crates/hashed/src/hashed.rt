@@ -1,5 +1,5 @@
 // The table: a stretch of records for each filtering database. A call for one database looks at no
-// record of another.
+// record of another. `find` and `learn` are always inlined down to the search (`slots::probe` says why).
 ghost use Rattle.std.specs.Prelude.{◌≡◌, ◌+◌, ◌*◌, ◌≤◌, filter, length};
 ghost use Rattle.std.proofs.Props.{props};
 ghost use Rattle.table.specs.Records.{Orderly, held_of};
@@ -65,6 +65,7 @@ impl<'a> Hashed<'a> {
     }
 
     // The port of an address, from the stretch of its database.
+    #[inline(always)]
     fn port_at(&self, row: Row, key: Key) -> Option<u8>
         requires { row.index + 1 ≡ key.fid }
         ensures { result ≡ port_of (lookup (set_of self.now) key.fid key.address) }
@@ -74,6 +75,7 @@ impl<'a> Hashed<'a> {
     }
 
     // Learns an entry in the stretch of its database.
+    #[inline(always)]
     fn learn_at(&mut self, row: Row, entry: Entry) -> Mark
         requires { row.index + 1 ≡ entry.key.fid }
         ensures mark { Ok result ≡ marked self.old.share (set_of self.old) entry.key.fid entry.key.address entry.port }
@@ -129,11 +131,13 @@ impl<'a> Table for Hashed<'a> {
 
     ghost share = { λ s. s.share };
 
+    #[inline(always)]
     fn find(&mut self, key: Key) -> Result<Option<u8>, Refusal> {
         let row = Row::from(Fid::try_from(key.fid)?);
         Ok(self.port_at(row, key))
     }
 
+    #[inline(always)]
     fn learn(&mut self, entry: Entry) -> Result<Mark, Refusal> {
         let row = Row::from(Fid::try_from(entry.key.fid)?);
         Ok(self.learn_at(row, entry))

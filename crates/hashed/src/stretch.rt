@@ -1,5 +1,6 @@
 // The calls on the records of one filtering database. Records and bounds are lent side by side: `port_of`
-// is lent them to read and `learn` to write, so a struct of both would have to be declared twice.
+// is lent them to read and `learn` to write, so a struct of both would have to be declared twice. Both are
+// always inlined (`slots::probe` says why).
 ghost use Rattle.std.specs.Prelude.{◌≡◌, ◌*◌, true, length, nat_lt};
 ghost use Rattle.table.specs.Entries.{lookup};
 ghost use Rattle.table.specs.Records.{distinct, held_of};
@@ -12,6 +13,7 @@ use slots::probe::{place, vacant};
 use table::entry::{Entry, Key};
 
 // The port of an address of the database.
+#[inline(always)]
 pub fn port_of(records: &[Entry], bounds: Bounds, key: Key) -> Option<u8>
     requires kept { Kept key.fid records.now bounds }
     requires apart { distinct (held_of records.now) ≡ true }
@@ -28,6 +30,7 @@ fn has_room(bounds: Bounds, share: usize) -> bool
 }
 
 // Writes an entry over the one of its pair, or into a free record while the database has room.
+#[inline(always)]
 pub fn learn(records: &mut [Entry], bounds: &mut Bounds, share: usize, entry: Entry) -> Mark
     requires kept { Kept entry.key.fid records.old bounds.old }
     requires apart { distinct (held_of records.old) ≡ true }

@@ -1,5 +1,9 @@
 // A search begins at the home of a pair of database and address and goes round. Nothing marks its end:
 // a record that was freed may lie before the entry, so the caller says how far entries reach.
+//
+// A search is always inlined, and so is what leads to it in a table: a key that is handed over in memory is
+// written in small parts and read in large ones, and for that a processor waits. With one call on the way
+// that was not inlined, learning a known address took 1.5 to 1.8 times as long.
 ghost use Rattle.std.specs.Prelude.{◌≡◌, ◌+◌, ◌^◌, ◌<◌, Bool, IfSome, min, length, take, position};
 ghost use Rattle.table.specs.declared.entry.Entry.{Entry};
 ghost use Rattle.table.specs.Entries.{has_key, is_free};
@@ -24,7 +28,8 @@ trait Sought {
         ensures { result ≡ matches self.now entry.now };
 }
 
-// The entry of a pair. The last byte is compared first: it nearly always tells, for a free record too.
+// The entry of a pair. The last byte is compared first: it nearly always tells, for a free record too. By
+// `has_key` alone, finding nothing in a half full stretch takes four times as long.
 impl Sought for Key {
     ghost matches = { λ key. has_key key.fid key.address };
 
@@ -70,6 +75,7 @@ fn gone_round(after: usize, at: usize) -> Spot
 
 // The first record that matches, among the first `reach` from the home of a pair on: those from the home
 // to the last one, and then those before it.
+#[inline(always)]
 fn search<T: Sought>(records: &[Entry], reach: usize, key: Key, sought: &T) -> Option<Spot>
     ensures { Found (T.matches sought.now) records.now (home_of (length records.now) key.fid key.address) (min reach (length records.now)) result }
 {
@@ -85,6 +91,7 @@ fn search<T: Sought>(records: &[Entry], reach: usize, key: Key, sought: &T) -> O
 }
 
 // The record of a pair, among the first `reach` records from its home on.
+#[inline(always)]
 pub fn place(records: &[Entry], reach: usize, key: Key) -> Option<Spot>
     ensures { Found (has_key key.fid key.address) records.now (home_of (length records.now) key.fid key.address) (min reach (length records.now)) result }
 {
