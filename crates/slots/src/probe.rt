@@ -1,9 +1,9 @@
 // A search begins at the home of a pair of database and address and goes round. Nothing marks its end:
 // a record that was freed may lie before the entry, so the caller says how far entries reach.
 //
-// A search is always inlined, and so is what leads to it in a table: a key that is handed over in memory is
-// written in small parts and read in large ones, and for that a processor waits. With one call on the way
-// that was not inlined, learning a known address took 1.5 to 1.8 times as long.
+// The search for a pair is always inlined, and so is what leads to it in a hashed table: a key that is handed
+// over in memory is written in small parts and read in large ones, and for that a processor waits. One call
+// on the way that is not inlined takes most of the gain (docs/CHECKING.md has the times).
 ghost use Rattle.std.specs.Prelude.{◌≡◌, ◌+◌, ◌^◌, ◌<◌, Bool, IfSome, min, length, take, position};
 ghost use Rattle.table.specs.declared.entry.Entry.{Entry};
 ghost use Rattle.table.specs.Entries.{has_key, is_free};

@@ -1,4 +1,4 @@
-// Freeing records where they lie. Since no search ends at a free record, nothing has to move.
+// Freeing records where they lie. Since no search for a pair ends at a free record, nothing has to move.
 ghost use Rattle.std.specs.Prelude.{◌≡◌, map};
 ghost use Rattle.slots.specs.Sweep.{heard_later, cleared};
 
