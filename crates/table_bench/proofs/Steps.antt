@@ -8,7 +8,7 @@ pub turn_more : (n stride k : ℕ) → turn_of n stride (k + 1) ≡ strode n str
 unfolding turn_of
 turn_more n stride k = rw (add-one k)
 
-pub filled_more : (share k : ℕ) → filled share (k + 1) ≡ after_learn share (filled share k) (fid_at k) (address_at (k / 16)) (port_at k) 0
+pub filled_more : (share k : ℕ) → filled share (k + 1) ≡ after_learn share (filled share k) (fid_at k) (address_at (k / 16)) (port_at k) 1
 unfolding filled
 filled_more share k = rw (add-one k)
 

@@ -1,12 +1,12 @@
 -- The work that is timed, as what it does to a table's set. Every kind of table does the same, so that its
 -- checksum is one number for all of them. Entries are counted through all sixteen filtering databases, so
 -- that neighbours are of different ones; the same addresses stand in each.
-use Rattle.std.specs.Prelude.{ℕ, zero, suc, ◌+◌, ◌-◌, ◌/◌, ◌%◌, ◌^◌, cond, List, [], ◌∷◌, Some, None, Ok, Err, Option, Result, nat_lt}
+use Rattle.std.specs.Prelude.{ℕ, zero, suc, ◌+◌, ◌-◌, ◌/◌, ◌%◌, ◌^◌, cond, List, [], ◌∷◌, Some, None, Ok, Err, Option, Result, ◌==◌, nat_lt}
 use Rattle.fault.specs.declared.mark.Mark.{Mark}
 use Rattle.fault.specs.declared.mark.Mark.TheVariants.{New, Known, Moved, Full, Unlearned}
 use Rattle.fault.specs.declared.refusal.Refusal.{Refusal}
 use Rattle.table.specs.declared.entry.Entry.{Entry}
-use Rattle.table.specs.Calls.{answered, marked, after_learn}
+use Rattle.table.specs.Calls.{answered, marked, after_learn, expired, after_expire}
 use Rattle.table.specs.Entries.{new_entry}
 
 -- The filtering database and the port of the entry with a number.
@@ -33,10 +33,10 @@ unfoldable pub turn_of : ℕ → ℕ → ℕ → ℕ
 turn_of n stride zero = 0
 turn_of n stride (suc k) = strode n stride (turn_of n stride k)
 
--- The set after k entries were learned at the time 0.
+-- The set after k entries were learned at the time 1.
 unfoldable pub filled : ℕ → ℕ → List Entry
 filled share zero = []
-filled share (suc k) = after_learn share (filled share k) (fid_at k) (address_at (k / 16)) (port_at k) 0
+filled share (suc k) = after_learn share (filled share k) (fid_at k) (address_at (k / 16)) (port_at k) 1
 
 -- What an answer counts in a checksum: one more than the port, or 1 for an address that was known.
 abbrev pub worth_of : Result (Option ℕ) Refusal → ℕ
@@ -69,6 +69,13 @@ learned share l at k = after_learn share l (fid_at at) (address_at (at / 16)) (p
 
 abbrev pub learned_worth : ℕ → List Entry → ℕ → ℕ
 learned_worth share l at = worth_of_mark (marked share l (fid_at at) (address_at (at / 16)) (port_at at))
+
+-- An expire of what was heard at the time 0 is worth 1 where nothing went.
+abbrev pub aged : ℕ → List Entry → ℕ → ℕ → List Entry
+aged share l at k = after_expire 0 l
+
+abbrev pub aged_worth : ℕ → List Entry → ℕ → ℕ
+aged_worth share l at = cond (expired 0 l == 0) 1 0
 
 -- The set after k of n entries had their turn.
 unfoldable pub set_after : (ℕ → List Entry → ℕ → ℕ → List Entry) → ℕ → List Entry → ℕ → ℕ → ℕ → List Entry

@@ -1,11 +1,11 @@
 // The benchmark's calls for C and Rust. Kinds: 0 searched, 1 hashed, 2 and 3 a recent list over these.
 ghost use Rattle.std.specs.Prelude.{◌≡◌};
 ghost use Rattle.table_bench.specs.Task.{entries_for, performed, timed};
-ghost use Rattle.table_bench.specs.Work.{found_worth, learned, learned_worth, unaltered};
+ghost use Rattle.table_bench.specs.Work.{aged, aged_worth, found_worth, learned, learned_worth, unaltered};
 
 use crate::kind::Kind;
 use crate::kinds::by_kind;
-use crate::task::{Find, Learn, Task};
+use crate::task::{Expire, Find, Learn, Task};
 use crate::work::Work;
 
 // No kind has another number: nothing is done then, and the answer is 0, since callers in C get a number.
@@ -34,4 +34,12 @@ pub extern "C" fn bridge_bench_learn(kind: u32, load: u32, rounds: u32) -> u64
     ensures { result ≡ timed kind (performed learned learned_worth (entries_for load) rounds) }
 {
     by_number(kind, &Work::new(Learn, load, rounds))
+}
+
+// Fills a table likewise, and expires what is older than every entry. Answers how often nothing went.
+#[unsafe(no_mangle)]
+pub extern "C" fn bridge_bench_expire(kind: u32, load: u32, rounds: u32) -> u64
+    ensures { result ≡ timed kind (performed aged aged_worth (entries_for load) rounds) }
+{
+    by_number(kind, &Work::new(Expire, load, rounds))
 }

@@ -1,7 +1,7 @@
 // What is timed, once a table is filled.
 ghost use Rattle.std.specs.Prelude.{◌≡◌, ℕ, List};
 ghost use Rattle.table.specs.declared.entry.Entry.{Entry};
-ghost use Rattle.table_bench.specs.Work.{found_worth, learned, learned_worth, unaltered};
+ghost use Rattle.table_bench.specs.Work.{aged, aged_worth, found_worth, learned, learned_worth, unaltered};
 
 use crate::entries::{entry_at, key_at};
 use fault::mark::Mark;
@@ -51,5 +51,19 @@ impl Task for Learn {
 
     fn one<T: Table>(&self, table: &mut T, at: u32, before: u64) -> u64 {
         u64::from(table.learn(entry_at(at, before)) == Ok(Mark::Known))
+    }
+}
+
+// Expires what is older than every entry, as most movements of a clock do.
+#[derive(Clone, Copy, PartialEq, Eq, Debug, Drop)]
+pub struct Expire;
+
+impl Task for Expire {
+    ghost later = { λ _. aged };
+
+    ghost worth = { λ _. aged_worth };
+
+    fn one<T: Table>(&self, table: &mut T, at: u32, before: u64) -> u64 {
+        u64::from(table.expire(0) == 0)
     }
 }

@@ -38,7 +38,7 @@ fn fill<T: Table>(table: &mut T, load: Load)
     ensures share { T.share table.new ≡ T.share table.old }
 {
     for at in 0..load.entries {
-        let _ = table.learn(entry_at(at, 0));
+        let _ = table.learn(entry_at(at, 1));
     }
 }
 

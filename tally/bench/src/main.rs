@@ -13,10 +13,11 @@ mod map;
 use std::hint::black_box;
 use std::time::Instant;
 
-// Safe to call: both take plain numbers, and are proved safe for all of them.
+// Safe to call: they take plain numbers, and are proved safe for all of them.
 unsafe extern "C" {
     safe fn bridge_bench_find(kind: u32, load: u32, from: u16, rounds: u32) -> u64;
     safe fn bridge_bench_learn(kind: u32, load: u32, rounds: u32) -> u64;
+    safe fn bridge_bench_expire(kind: u32, load: u32, rounds: u32) -> u64;
 }
 
 const TURNS: usize = 80;
@@ -29,6 +30,7 @@ enum Task {
     Find,
     FindAbsent,
     Learn,
+    ExpireNone,
 }
 
 #[derive(Clone, Copy)]
@@ -50,9 +52,11 @@ fn perform(kind: Kind, task: Task, load: u32, rounds: u32) -> u64 {
         (Kind::Proved(kind), Task::Find) => bridge_bench_find(kind, load, 0, rounds),
         (Kind::Proved(kind), Task::FindAbsent) => bridge_bench_find(kind, load, ABSENT, rounds),
         (Kind::Proved(kind), Task::Learn) => bridge_bench_learn(kind, load, rounds),
+        (Kind::Proved(kind), Task::ExpireNone) => bridge_bench_expire(kind, load, rounds),
         (Kind::HashMap, Task::Find) => map::find(load, 0, rounds),
         (Kind::HashMap, Task::FindAbsent) => map::find(load, ABSENT, rounds),
         (Kind::HashMap, Task::Learn) => map::learn(load, rounds),
+        (Kind::HashMap, Task::ExpireNone) => map::expire(load, rounds),
     }
 }
 
@@ -99,7 +103,7 @@ fn check(task: Task, load: u32) {
     match task {
         Task::Find => assert!(expected >= u64::from(32 * load)),
         Task::FindAbsent => assert_eq!(expected, 0),
-        Task::Learn => assert_eq!(expected, u64::from(32 * load)),
+        Task::Learn | Task::ExpireNone => assert_eq!(expected, u64::from(32 * load)),
     }
 }
 
@@ -114,6 +118,7 @@ fn main() {
         ("find", Task::Find),
         ("find absent", Task::FindAbsent),
         ("learn known", Task::Learn),
+        ("expire none", Task::ExpireNone),
     ] {
         for load in [1, 64, 256] {
             check(task, load);

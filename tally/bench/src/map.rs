@@ -22,6 +22,8 @@ struct NoSuchFid;
 struct Table {
     entries: HashMap<(u8, Address), (u8, u64)>,
     held: [usize; 16],
+    /// No entry was heard before this time.
+    oldest: u64,
 }
 
 impl Table {
@@ -29,6 +31,7 @@ impl Table {
         Table {
             entries: HashMap::with_capacity(16 * SHARE),
             held: [0; 16],
+            oldest: u64::MAX,
         }
     }
 
@@ -49,6 +52,7 @@ impl Table {
         if !(1..=16).contains(&fid) {
             return Err(NoSuchFid);
         }
+        self.oldest = self.oldest.min(heard);
         if let Some(entry) = self.entries.get_mut(&(fid, address)) {
             let before = entry.0;
             *entry = (port, heard);
@@ -65,6 +69,25 @@ impl Table {
         *held += 1;
         self.entries.insert((fid, address), (port, heard));
         Ok(Mark::New)
+    }
+
+    fn expire(&mut self, limit: u64) -> usize {
+        if limit < self.oldest {
+            return 0;
+        }
+        let before = self.entries.len();
+        let (held, oldest) = (&mut self.held, &mut self.oldest);
+        *oldest = u64::MAX;
+        self.entries.retain(|key, entry| {
+            let stays = limit < entry.1;
+            if stays {
+                *oldest = entry.1.min(*oldest);
+            } else {
+                held[usize::from(key.0 - 1)] -= 1;
+            }
+            stays
+        });
+        before - self.entries.len()
     }
 }
 
@@ -104,7 +127,7 @@ fn find_one(table: &Table, at: u32, from: u16) -> u64 {
 fn filled(n: u32) -> Table {
     let mut table = Table::new();
     for at in 0..n {
-        learn_one(&mut table, at, 0);
+        learn_one(&mut table, at, 1);
     }
     table
 }
@@ -136,6 +159,18 @@ pub fn learn(load: u32, rounds: u32) -> u64 {
     for k in 0..u64::from(rounds) * u64::from(n) {
         sum = sum.wrapping_add(learn_one(&mut table, at, k));
         at = next_turn(n, STRIDE % n, at);
+    }
+    sum
+}
+
+/// As `bridge_bench_expire` does, without a kind.
+#[inline(never)]
+pub fn expire(load: u32, rounds: u32) -> u64 {
+    let n = 16 * load.clamp(1, 256);
+    let mut table = black_box(filled(n));
+    let mut sum = 0u64;
+    for _ in 0..u64::from(rounds) * u64::from(n) {
+        sum = sum.wrapping_add(u64::from(black_box(&mut table).expire(0) == 0));
     }
     sum
 }
