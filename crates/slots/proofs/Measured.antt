@@ -1,10 +1,10 @@
 -- What the bounds of a stretch say of its records.
-use Rattle.std.proofs.Common.{◌≡◌, ℕ, zero, suc, ◌+◌, ◌<◌, ◌≤◌, min, max, true, false, cond, not, List, [], ◌∷◌, length, get_or, sym, refl, ◌∙◌, subst, arith}
+use Rattle.std.proofs.Common.{◌≡◌, ℕ, zero, suc, ◌+◌, ◌<◌, ◌≤◌, min, max, Bool, true, false, cond, not, List, [], ◌∷◌, length, get_or, sym, refl, ◌∙◌, subst, arith}
 use Rattle.table.specs.declared.entry.Entry.{Entry}
 use Rattle.table.specs.Entries.{is_free, free_entry}
 use Rattle.table.specs.Records.{held_of}
 use Rattle.slots.specs.declared.measure.Bounds.{Bounds}
-use Rattle.slots.specs.Measure.{passes, counted, counted_from, empty_bounds, measured, Within}
+use Rattle.slots.specs.Measure.{passes, counted, counted_from, empty_bounds, measured, AllNear, Within}
 
 -- bounds that are no tighter
 pub record Looser (b c : Bounds) : Type 0 where
@@ -45,3 +45,21 @@ held_from n i b (e ∷ es) = held_from n (i + 1) (counted n i b e) es ∙ held_o
 
 pub held_measured : (xs : List Entry) → (measured xs).held ≡ length (held_of xs)
 held_measured xs = held_from (length xs) 0 empty_bounds xs ∙ (let z : 0 + length (held_of xs) ≡ length (held_of xs) = omega arith in z)
+
+-- the reach that was measured is no farther than the farthest entry
+
+reach_counted : (n i : ℕ) (b : Bounds) (e : Entry) (r : ℕ) → b.reach ≤ r → (is_free e ≡ false → passes n i e ≤ r) → (counted n i b e).reach ≤ r
+reach_counted n i b e r h near = go (is_free e) refl
+  where
+    go : (f : Bool) → is_free e ≡ f → (cond f b (record { held = b.held + 1; reach = max b.reach (passes n i e); oldest = min b.oldest e.heard })).reach ≤ r
+    go true q = h
+    go false q = omega (arith, near q)
+
+reach_from : (n i : ℕ) (b : Bounds) (es : List Entry) (r : ℕ) → b.reach ≤ r → ((k : ℕ) → k < length es → is_free (get_or es k free_entry) ≡ false → passes n (i + k) (get_or es k free_entry) ≤ r) → (counted_from n i b es).reach ≤ r
+reach_from n i b [] r h near = h
+reach_from n i b (e ∷ es) r h near =
+    let first : is_free e ≡ false → passes n i e ≤ r = λ u. subst (λ j. passes n j e ≤ r) (let z : i + 0 ≡ i = omega arith in z) (near 0 (omega arith) u) in
+    reach_from n (i + 1) (counted n i b e) es r (reach_counted n i b e r h first) (λ k lt u. subst (λ j. passes n j (get_or es k free_entry) ≤ r) (let z : i + suc k ≡ i + 1 + k = omega arith in z) (near (suc k) (omega arith) u))
+
+pub reach_measured : (xs : List Entry) (r : ℕ) → AllNear xs r → (measured xs).reach ≤ r
+reach_measured xs r near = reach_from (length xs) 0 empty_bounds xs r (omega arith) (λ k lt u. subst (λ j. passes (length xs) j (get_or xs k free_entry) ≤ r) (let z : k ≡ 0 + k = omega arith in z) (near k lt u))

@@ -1,8 +1,8 @@
 -- The bounds of a stretch of records: how many entries it holds, how many records a search passes until
 -- it has passed every entry from its home on, and the earliest time that an entry was heard.
-use Rattle.std.specs.Prelude.{ℕ, ◌+◌, ◌-◌, ◌^◌, ◌≤◌, min, max, cond, List, [], ◌∷◌, length}
+use Rattle.std.specs.Prelude.{◌≡◌, ℕ, ◌+◌, ◌-◌, ◌^◌, ◌<◌, ◌≤◌, min, max, false, cond, List, [], ◌∷◌, length, slice_index_or}
 use Rattle.table.specs.declared.entry.Entry.{Entry}
-use Rattle.table.specs.Entries.{is_free}
+use Rattle.table.specs.Entries.{is_free, free_entry}
 use Rattle.slots.specs.declared.measure.Bounds.{Bounds}
 use Rattle.slots.specs.Hash.{home_of, gap}
 
@@ -38,6 +38,10 @@ counted_from n i b (e ∷ es) = counted_from n (i + 1) (counted n i b e) es
 
 abbrev pub measured : List Entry → Bounds
 measured xs = counted_from (length xs) 0 empty_bounds xs
+
+-- Each entry lies among the first r records from its home on.
+abbrev pub AllNear : List Entry → ℕ → Type 0
+AllNear xs r = (i : ℕ) → i < length xs → is_free (slice_index_or xs i free_entry) ≡ false → passes (length xs) i (slice_index_or xs i free_entry) ≤ r
 
 -- The entry at the place i among n lies within the bounds.
 pub record Within (n i : ℕ) (b : Bounds) (e : Entry) : Type 0 where
