@@ -33,18 +33,17 @@ pub struct Hashed<'a> {
 }
 
 impl<'a> Hashed<'a> {
-    ghost use Rattle.std.specs.Prelude.{min, ◌/◌, [], Ok};
+    ghost use Rattle.std.specs.Prelude.{[], Ok};
     ghost use Rattle.table.specs.Entries.{lookup};
     ghost use Rattle.table.specs.Calls.{after_flush, after_learn, flushed, marked, port_of};
     ghost use Rattle.hashed.specs.Sets.{set_of};
 
     // An empty table in 32 records for each entry of the share. Records beyond these are left alone.
-    // Where this is other memory than was asked about, and less, the share is what the memory allows.
-    pub fn new(checked: Checked<32>, records: &'a mut [Entry]) -> Hashed<'a>
+    pub fn new(checked: Checked<'a, 32>) -> Hashed<'a>
         ensures empty { set_of result ≡ [] }
-        ensures share { result.share ≡ min checked.share (length records.old / 32) }
+        ensures share { result.share ≡ checked.entry.share }
     {
-        let share = checked.share_in(records);
+        let (share, records) = checked.into_parts();
         let records = &mut records[..32 * share];
         clear(records);
         Hashed {
@@ -146,7 +145,7 @@ impl<'a> Table for Hashed<'a> {
     #[tactic(auto, using(crate::proofs::Calls::none_yet, crate::proofs::Calls::one_more))]
     fn expire(&mut self, limit: u64) -> usize {
         let mut gone = 0;
-        // By row: a share may be 0, and there is no going over chunks of 0 records.
+        // By row, which tells both the stretch and its bounds.
         for index in 0..16 {
             gone += self.expire_row(Row { index }, limit);
         }

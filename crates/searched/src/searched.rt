@@ -27,7 +27,7 @@ pub struct Searched<'a> {
 }
 
 impl<'a> Searched<'a> {
-    ghost use Rattle.std.specs.Prelude.{◌+◌, ◌/◌, min, Bool, false, [], replicate, None, filter, nat_le};
+    ghost use Rattle.std.specs.Prelude.{◌+◌, Bool, false, [], replicate, None, filter, nat_le};
     ghost use Rattle.table.specs.Calls.{after_expire, port_of};
     ghost use Rattle.table.specs.Entries.{free_entry, is_fid, lookup};
     ghost use Rattle.table.specs.Rising.{insert};
@@ -36,14 +36,13 @@ impl<'a> Searched<'a> {
     ghost use Rattle.searched.specs.Sets.{after_renewal, renewed, set_of};
 
     // An empty table in 16 records for each entry of the share. Records beyond these are left alone.
-    // Where this is other memory than was asked about, and less, the share is what the memory allows.
-    pub fn new(checked: Checked<16>, records: &'a mut [Entry]) -> Searched<'a>
+    pub fn new(checked: Checked<'a, 16>) -> Searched<'a>
         ensures empty { set_of result ≡ [] }
-        ensures share { result.share ≡ min checked.share (length records.old / 16) }
+        ensures share { result.share ≡ checked.entry.share }
         ensures oldest { result.oldest ≡ oldest_of [] }
         ensures free { result.rows.all.now ≡ replicate (16 * result.share) free_entry }
     {
-        let share = checked.share_in(records);
+        let (share, records) = checked.into_parts();
         let all = &mut records[..16 * share];
         all.fill(Entry::free());
         Searched {

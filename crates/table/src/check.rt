@@ -1,20 +1,30 @@
 // The questions that are asked before a table is made.
-ghost use Rattle.std.specs.Prelude.{◌≡◌, length};
-ghost use Rattle.table.specs.Checks.{asked, share_of};
+ghost use Rattle.std.specs.Prelude.{◌≡◌};
+ghost use Rattle.table.specs.Checks.{Answers};
 
-use crate::checked::Checked;
+use crate::checked::{Checked, Refused};
 use crate::entry::Entry;
 use fault::refusal::Refusal;
 
-// Asks whether the share is 1 to 256, and then whether there are enough records for each entry of it.
-pub fn check<const RECORDS: u16>(share: u16, records: &[Entry]) -> Result<Checked<RECORDS>, Refusal>
-    ensures { share_of result ≡ asked RECORDS share (length records.now) }
+// Asks whether the share is 1 to 256, and then whether there are enough records for each entry of it. Either
+// answer holds the memory, as it was.
+pub fn check<const RECORDS: u16>(
+    share: u16,
+    records: &mut [Entry],
+) -> Result<Checked<'_, RECORDS>, Refused<'_>>
+    ensures { Answers RECORDS share records.entry result }
 {
     if share < 1 || share > 256 {
-        return Err(Refusal::ShareOutOfRange);
+        return Err(Refused {
+            refusal: Refusal::ShareOutOfRange,
+            records,
+        });
     }
     if records.len() < usize::from(RECORDS) * usize::from(share) {
-        return Err(Refusal::TableMemoryTooSmall);
+        return Err(Refused {
+            refusal: Refusal::TableMemoryTooSmall,
+            records,
+        });
     }
-    Ok(Checked { share })
+    Ok(Checked { share, records })
 }

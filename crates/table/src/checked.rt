@@ -1,29 +1,47 @@
 // What a check of a table's share and memory hands out.
-ghost use Rattle.std.specs.Prelude.{◌≤◌};
+ghost use Rattle.std.specs.Prelude.{◌*◌, ◌≤◌, length};
 
 use crate::entry::Entry;
+use fault::refusal::Refusal;
 
-// A share that is in range, and for which there was memory: so many records for each entry of it. Only
-// `check` makes one, and a table is made from one that was checked for its own kind.
-#[derive(Clone, Copy, PartialEq, Eq, Debug, Drop)]
-pub struct Checked<const RECORDS: u16> {
+// A share that is in range, with the memory that is enough for it: so many records for each entry. Only
+// `check` makes one, and a table is made of one that was checked for its own kind.
+#[derive(Drop)]
+pub struct Checked<'a, const RECORDS: u16> {
     pub(crate) share: u16,
+    pub(crate) records: &'a mut [Entry],
     pub ghost low: { 1 ≤ share },
     pub ghost high: { share ≤ 256 },
+    pub ghost room: { RECORDS * share ≤ length records.now },
 }
 
-impl<const RECORDS: u16> Checked<RECORDS> {
-    ghost use Rattle.std.specs.Prelude.{◌≡◌, ◌/◌, min, length};
+impl<'a, const RECORDS: u16> Checked<'a, RECORDS> {
+    ghost use Rattle.std.specs.Prelude.{◌≡◌};
 
-    // The share of a table in this memory: the one that was checked or, where this is other memory than
-    // was asked about and too small for it, what it allows.
-    pub fn share_in(&self, records: &[Entry]) -> usize
-        ensures value { result ≡ min self.now.share (length records.now / RECORDS) }
-        ensures small { result ≤ 256 }
+    // The share, and the memory.
+    pub fn into_parts(self) -> (usize, &'a mut [Entry])
+        ensures share { result.0 ≡ self.entry.share }
+        ensures memory { result.1 ≡ self.entry.records }
+        ensures high { result.0 ≤ 256 }
+        ensures room { RECORDS * result.0 ≤ length result.1.now }
     {
-        match records.len().checked_div(usize::from(RECORDS)) {
-            Some(most) => most.min(usize::from(self.share)),
-            None => 0,
-        }
+        (usize::from(self.share), self.records)
+    }
+}
+
+// Why no table can be made in this memory, which is given back.
+#[derive(Drop)]
+pub struct Refused<'a> {
+    pub refusal: Refusal,
+    pub records: &'a mut [Entry],
+}
+
+impl<'a> From<Refused<'a>> for Refusal {
+    ghost use Rattle.std.specs.Prelude.{◌≡◌};
+
+    ghost from_gives = { λ before after. after ≡ before.refusal };
+
+    fn from(refused: Refused<'a>) -> Refusal {
+        refused.refusal
     }
 }

@@ -21,7 +21,7 @@ fn searched(records: &mut [Entry]) -> Searched<'_>
     ensures share { result.share ≡ 256 }
 {
     match check(256, records) {
-        Ok(checked) => Searched::new(checked, records),
+        Ok(checked) => Searched::new(checked),
         Err(_) => unreachable!(),
     }
 }
@@ -32,7 +32,7 @@ fn hashed(records: &mut [Entry]) -> Hashed<'_>
     ensures share { result.share ≡ 256 }
 {
     match check(256, records) {
-        Ok(checked) => Hashed::new(checked, records),
+        Ok(checked) => Hashed::new(checked),
         Err(_) => unreachable!(),
     }
 }

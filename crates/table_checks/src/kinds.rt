@@ -8,11 +8,9 @@ use table::check::check;
 use table::entry::Entry;
 
 pub fn searched(share: u16, records: &mut [Entry]) -> Result<Searched<'_>, Refusal> {
-    let checked = check(share, records)?;
-    Ok(Searched::new(checked, records))
+    Ok(Searched::new(check(share, records)?))
 }
 
 pub fn hashed(share: u16, records: &mut [Entry]) -> Result<Hashed<'_>, Refusal> {
-    let checked = check(share, records)?;
-    Ok(Hashed::new(checked, records))
+    Ok(Hashed::new(check(share, records)?))
 }

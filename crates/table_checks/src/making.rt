@@ -2,9 +2,6 @@
 use crate::calls::{Answer, Call, ask, numbered};
 use crate::kinds::{hashed, searched};
 use fault::mark::Mark;
-use fault::refusal::Refusal;
-use hashed::hashed::Hashed;
-use searched::searched::Searched;
 use std::process::Abort;
 use std::test::Fail;
 use table::check::check;
@@ -12,10 +9,16 @@ use table::entry::{Entry, Key};
 use table::table::Table;
 
 // By the number, since that is what callers know.
-fn refuses<C: Drop>(rt: &impl Abort, asked: Result<C, Refusal>, number: u8) -> Result<(), Fail> {
-    match asked {
-        Err(refusal) => {
-            assert_eq!(rt; refusal.number(), number);
+fn refuses<const RECORDS: u16>(
+    rt: &impl Abort,
+    share: u16,
+    records: &mut [Entry],
+    number: u8,
+) -> Result<(), Fail> {
+    match check::<RECORDS>(share, records) {
+        Err(refused) => {
+            assert_eq!(rt; refused.refusal.number(), number);
+            check_marked(rt, refused.records);
             Ok(())
         },
         Ok(_) => Err(Fail::new("nothing was refused")),
@@ -60,12 +63,12 @@ fn holds_its_share<T: Table>(rt: &impl Abort, table: &mut T, share: u16) -> Resu
 // The share is asked about first, whatever the memory.
 #[test]
 fn shares_out_of_range(rt: HostRuntime) -> Result<(), Fail> {
-    let records = [Entry::free(); 48];
+    let mut records = [marked(); 48];
     for share in [0, 257, 65535] {
-        refuses(&rt, check::<16>(share, &records), 25)?;
-        refuses(&rt, check::<32>(share, &records), 25)?;
-        refuses(&rt, check::<16>(share, &records[0..0]), 25)?;
-        refuses(&rt, check::<32>(share, &records[0..0]), 25)?;
+        refuses::<16>(&rt, share, &mut records, 25)?;
+        refuses::<32>(&rt, share, &mut records, 25)?;
+        refuses::<16>(&rt, share, &mut records[0..0], 25)?;
+        refuses::<32>(&rt, share, &mut records[0..0], 25)?;
     }
     Ok(())
 }
@@ -73,13 +76,13 @@ fn shares_out_of_range(rt: HostRuntime) -> Result<(), Fail> {
 // These records are as many as a table with this share asks for: one less is refused.
 fn asks_for<const RECORDS: u16>(
     rt: &impl Abort,
-    records: &[Entry],
+    records: &mut [Entry],
     share: u16,
 ) -> Result<(), Fail> {
     let size = records.len();
     assert!(rt; size > 0);
-    refuses(rt, check::<RECORDS>(share, &records[0..size - 1]), 27)?;
-    refuses(rt, check::<RECORDS>(share, &records[0..0]), 27)?;
+    refuses::<RECORDS>(rt, share, &mut records[0..size - 1], 27)?;
+    refuses::<RECORDS>(rt, share, &mut records[0..0], 27)?;
     check_marked(rt, records);
     Ok(())
 }
@@ -115,18 +118,4 @@ fn records_left_over(rt: HostRuntime) -> Result<(), Fail> {
     holds_its_share(&rt, &mut hashed(1, &mut records)?, 1)?;
     check_marked(&rt, &records[32..40]);
     Ok(())
-}
-
-// Where a table is made in less memory than was asked about, its share is what the memory allows.
-#[test]
-fn other_memory_than_was_asked_about(rt: HostRuntime) -> Result<(), Fail> {
-    let asked_about = [marked(); 96];
-    let for_searched = check(3, &asked_about)?;
-    holds_its_share(
-        &rt,
-        &mut Searched::new(for_searched, &mut [marked(); 47]),
-        2,
-    )?;
-    let for_hashed = check(3, &asked_about)?;
-    holds_its_share(&rt, &mut Hashed::new(for_hashed, &mut [marked(); 95]), 2)
 }

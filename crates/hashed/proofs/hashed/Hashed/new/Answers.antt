@@ -6,10 +6,10 @@ use Rattle.hashed.proofs.Cut.{held_cleared, laid_cleared}
 use Rattle.hashed.proofs.hashed.Hashed.new.Goals as goal
 
 pub invariant_of-result-clause-laid : goal.invariant_of-result-clause-laid
-invariant_of-result-clause-laid c = laid_cleared c.share_in-share.result _ c.clear.new.records c.empty.result c.clear.ensures c.empty.ensures
+invariant_of-result-clause-laid c = laid_cleared _ _ c.clear.new.records c.empty.result c.clear.ensures c.empty.ensures
 
 pub invariant_of-result-clause-orderly : goal.invariant_of-result-clause-orderly
-invariant_of-result-clause-orderly c = subst (λ l. Orderly c.share_in-share.result l) (sym (held_cleared _ _ c.clear.ensures)) (orderly_none c.share_in-share.result)
+invariant_of-result-clause-orderly c = subst (Orderly _) (sym (held_cleared _ _ c.clear.ensures)) (orderly_none _)
 
 pub returns-clause-empty : goal.returns-clause-empty
 returns-clause-empty c = ap rising (held_cleared _ _ c.clear.ensures)
