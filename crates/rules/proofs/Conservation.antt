@@ -3,12 +3,14 @@ use Rattle.std.proofs.Common.{◌≡◌, ℕ, ◌+◌, ◌<◌, Bool, true, fals
 use Rattle.std.proofs.lemmas.List.{length_push}
 use Rattle.std.proofs.lemmas.Bool.{cond-true, eqb-true, lt-ltb}
 use Rattle.rules.specs.Calls.{Answer, Call, counted, outcome, perform, standing}
-use Rattle.rules.specs.Egress.{class_of, lays, sendable}
-use Rattle.rules.specs.Laws.{Conservation, amount, as_emptied, as_received, as_sent, emptied_number, event_at, queued_number, queues_one, sends_at, sends_one, sent_number, standing_number, standing_read}
+use Rattle.rules.specs.Egress.{class_at, lays, sendable}
+use Rattle.rules.specs.Laws.{Conservation, amount, emptied_number, event_at, queued_number, queues_one, sends_at, sends_one, sent_number, standing_number, standing_read}
+use Rattle.rules.specs.Ports.{eight}
 use Rattle.rules.specs.Runs.{Goes, Path', Step}
 use Rattle.rules.specs.Runs.Path'.{stay, go}
 use Rattle.rules.specs.Settings.{Settings}
-use Rattle.rules.specs.State.{Queued, State, at_start, eight, standing_at, standing_in}
+use Rattle.rules.specs.State.{Queued, State, at_start, standing_at, standing_in}
+use Rattle.rules.specs.Steps.{as_emptied, as_received, as_sent}
 use Rattle.rules.proofs.Effects.{Did, Plain, did}
 use Rattle.rules.proofs.Effects.Did.{cleared, handed, laying, rested, shifted}
 use Rattle.rules.proofs.Paths.{join, split, stays_started}
@@ -58,7 +60,7 @@ one : {σ : Settings} {s t : State} {call : Call} {a : Answer} (p : ℕ) → Did
 one {s = s} {t = t} {call = call} {a = a} p (rested plain same) =
     omega (arith, ap (queues_one p) plain.received, sent_none p call a plain, emptied_none p call a plain, same_standing (s.queues p) (t.queues p) eight (same.queues p))
 one {σ = σ} {s = s} {t = t} p (laying {r = r} e) =
-    omega (arith, laid_one (s.queues p) (t.queues p) (lays r.decided r.no_room p) (class_of σ.classes r.classified.priority) (sendable e.picture e.vlan r.classified.priority p) (class_small σ.classes r.classified.priority) (e.queues p))
+    omega (arith, laid_one (s.queues p) (t.queues p) (lays r.decided r.no_room p) (class_at σ p r.classified.1) (sendable e.picture e.vlan r.classified.1 p) (class_small σ.classes r.classified.1) (e.queues p))
 one {s = s} {t = t} p (handed {p = q} {x = x} e) =
     omega (arith, taken_one (s.queues p) (t.queues p) (eqb p q) x.class e.first e.rest e.class (λ f. ap (λ i. s.queues i x.class) (eqb-true p q f) ∙ e.stood) (e.queues p), ap {B = ℕ} (λ b. cond b 1 0) (eqb_flip p q))
 one {s = s} {t = t} p (cleared {p = q} {k = k} e) =

@@ -1,15 +1,17 @@
 -- A send with enough of both memories hands a frame out while one stands, and is told that none stands when none does.
 use Rattle.std.proofs.Common.{◌≡◌, ℕ, zero, suc, ◌<◌, true, false, cond, eqb, ltb, leb, List, [], ◌∷◌, length, Some, None, Option, sym, refl, ap, ◌∙◌, subst, subst₂, arith, lit<}
-use Rattle.std.proofs.lemmas.Bool.{and_parts, cond-true, eq-eqb, eqb-true, false≢true, lt-ltb, true≢false}
+use Rattle.std.proofs.lemmas.Bool.{and_parts, cond-true, cond_both, eq-eqb, eqb-true, false≢true, lt-ltb, true≢false}
 use Rattle.fault.specs.declared.refusal.Refusal.TheVariants.{NoFrameStands}
-use Rattle.rules.specs.Calls.{Answer, Call, advance, choosing, event, find, flush, handing, holds_frame, memory_needed, perform, receive, refused, send, standing, standing_classes}
-use Rattle.rules.specs.Laws.{Drained, Draining, all_roomy_sends, as_sent, is_roomy_send, is_sent, standing_number}
+use Rattle.rules.specs.Calls.{Answer, Call, advance, choosing, event, find, flush, handing, memory_needed, perform, picking, receive, refused, refusing, send, standing}
+use Rattle.rules.specs.Laws.{Drained, Draining, all_roomy_sends, is_roomy_send, is_sent, standing_number}
+use Rattle.rules.specs.Ports.{eight}
 use Rattle.rules.specs.Runs.{Chooses, ChoosesAt, Goes, Path', Step}
 use Rattle.rules.specs.Runs.Path'.{stay, go}
 use Rattle.rules.specs.Settings.{Settings}
-use Rattle.rules.specs.State.{Queued, State, eight, standing_at, standing_in}
+use Rattle.rules.specs.State.{Queued, State, frame_stands, holds_frame, standing_at, standing_classes, standing_in}
+use Rattle.rules.specs.Steps.{as_sent}
 use Rattle.rules.proofs.Conservation.{stands, taken_one}
-use Rattle.rules.proofs.Numbers.{flag, flagged}
+use Rattle.rules.proofs.Numbers.{flag, flagged, none_in}
 use Rattle.rules.proofs.Paths.{split, stays_started, step_started}
 
 -- what such a send does, by what stood at the port
@@ -39,6 +41,14 @@ choosing_turn s p (Some c) h =
     let held = flagged (λ d. holds_frame (s.queues p d)) 8 c h in
     handing_turn s p c (s.queues p c) refl held.0 held.1
 
+-- where no class holds a frame, none stands
+picking_turn : (s : State) (p : ℕ) (o : Option ℕ) → Chooses (standing_classes s p) o → Turn p s (picking s p o).answer (picking s p o).after
+picking_turn s p o h =
+    cond_both (frame_stands s p) (choosing s p o) (refusing NoFrameStands s) (λ x. Turn p s x.answer x.after) (λ _. choosing_turn s p o h)
+    (λ none.
+    let nothing = none_stand (s.queues p) (λ c small. empty (s.queues p c) (sym (flag (λ d. holds_frame (s.queues p d)) 8 c small) ∙ none_in (standing_classes s p) c none)) in
+    idle refl nothing nothing)
+
 roomy_turn : (σ : Settings) (p : ℕ) → p < σ.ports → (s : State) → s.started ≡ true → (call : Call) (choice : Option ℕ) → ChoosesAt s call choice → is_roomy_send σ p call ≡ true → Turn p s (perform σ s call choice).answer (perform σ s call choice).after
 roomy_turn σ p h s started (receive q frame memory) choice chosen roomy = absurd (false≢true roomy)
 roomy_turn σ p h s started (send q memory output) choice chosen roomy =
@@ -46,8 +56,8 @@ roomy_turn σ p h s started (send q memory output) choice chosen roomy =
     let first = and_parts _ _ last.0 in
     let port : q ≡ p = eqb-true q p first.0 in
     let range : ltb q σ.ports ≡ true = rw port (lt-ltb p σ.ports h) in
-    let is : perform σ s (send q memory output) choice ≡ choosing s q choice = cond-true s.started _ _ started ∙ cond-true (ltb q σ.ports) _ _ range ∙ cond-true (leb (memory_needed σ) memory) _ _ first.1 ∙ cond-true (leb 1518 output) _ _ last.1 in
-    subst (λ o. Turn p s o.answer o.after) (sym is) (subst (λ i. Turn i s (choosing s q choice).answer (choosing s q choice).after) port (choosing_turn s q choice chosen))
+    let is : perform σ s (send q memory output) choice ≡ picking s q choice = cond-true s.started _ _ started ∙ cond-true (ltb q σ.ports) _ _ range ∙ cond-true (leb (memory_needed σ) memory) _ _ first.1 ∙ cond-true (leb 1518 output) _ _ last.1 in
+    subst (λ o. Turn p s o.answer o.after) (sym is) (subst (λ i. Turn i s (picking s q choice).answer (picking s q choice).after) port (picking_turn s q choice chosen))
 roomy_turn σ p h s started (advance t) choice chosen roomy = absurd (false≢true roomy)
 roomy_turn σ p h s started (event q n) choice chosen roomy = absurd (false≢true roomy)
 roomy_turn σ p h s started (flush f) choice chosen roomy = absurd (false≢true roomy)

@@ -7,7 +7,7 @@ use Rattle.fault.specs.declared.mark.Mark.{Mark}
 use Rattle.fault.specs.declared.refusal.Refusal.{Refusal}
 use Rattle.fault.specs.declared.refusal.Refusal.TheVariants.{FrameNotAdmitted, NotMember, NotStarted, PortOutOfRange, FrameMemoryTooSmall, PortNotLearning, PortNotForwarding, ReservedDestination, NoEgressPort, OutputMemoryTooSmall, NoFrameStands, TimeBeforeClock, TimeTooLarge, UnknownEvent, NoTransition}
 use Rattle.frame.specs.Address.{reserved}
-use Rattle.frame.specs.Reading.{Picture, parse}
+use Rattle.frame.specs.Reading.{Picture}
 use Rattle.frame.specs.declared.parts.Tag.{Tag}
 use Rattle.table.specs.Calls.{answered, flushed}
 use Rattle.table.specs.declared.entry.Entry.{Entry}
@@ -15,19 +15,19 @@ use Rattle.rules.specs.declared.answers.Received.{Received}
 use Rattle.rules.specs.declared.answers.Sent.{Sent}
 use Rattle.rules.specs.declared.ports.PortEvent.{PortEvent}
 use Rattle.rules.specs.declared.ports.PortEvent.TheVariants.{Enable, Disable, Choose, Drop, DelayOver}
-use Rattle.rules.specs.Ports.{Ports}
+use Rattle.rules.specs.Ports.{Ports, has, has_any}
 use Rattle.rules.specs.declared.ports.PortSettings.{PortSettings}
 use Rattle.rules.specs.declared.ports.PortState.{PortState}
 use Rattle.rules.specs.declared.ports.PortState.TheVariants.{Disabled, Blocking, Listening, Learning, Forwarding}
 use Rattle.rules.specs.declared.vlans.Vlan.{Vlan}
-use Rattle.rules.specs.Calls.{Answer, Call, Outcome, advance, asking, choosing, emptied, emptied_queues, entering, event, event_of, find, finding, flood, flush, flushing, handing, happening, holds_frame, learning, memory_needed, moved, moving, next_state, outcome, perform, reading, receive, received, refusing, relay, send, sent, standing, standing_classes}
-use Rattle.rules.specs.Egress.{class_of, lays, without_room, sendable}
-use Rattle.rules.specs.Ingress.{admitted, ingress, of_member, placed}
-use Rattle.rules.specs.Laws.{as_emptied, as_received, as_sent}
-use Rattle.rules.specs.Relay.{any_in, decided, decides, forwards, learnable, learned, learns}
+use Rattle.rules.specs.Calls.{Answer, Call, Outcome, advance, asking, choosing, emptied, emptied_queues, entering, event, event_of, find, finding, flood, flush, flushing, handing, happening, learning, memory_needed, moved, moving, next_state, outcome, perform, reading, receive, received, refusing, relay, send, sent, standing}
+use Rattle.rules.specs.Egress.{lays_in, without_room, sendable}
+use Rattle.rules.specs.Ingress.{admitted, classified_at, ingress, of_member, read_at}
+use Rattle.rules.specs.Steps.{as_emptied, as_received, as_sent}
+use Rattle.rules.specs.Relay.{decided, decides, forwards, learnable, learned, learns}
 use Rattle.rules.specs.Runs.{Chooses, ChoosesAt, Goes, Step}
-use Rattle.rules.specs.Settings.{Settings, has, port_of, vlan_of}
-use Rattle.rules.specs.State.{Queued, State, standing_at, state_of, with_clock, with_entries, with_queues, with_states}
+use Rattle.rules.specs.Settings.{Settings, is_member, port_settings, vlan_of}
+use Rattle.rules.specs.State.{Queued, State, frame_stands, holds_frame, standing_at, standing_classes, state_of}
 use Rattle.rules.proofs.IsoSettings.{found_again}
 use Rattle.rules.proofs.Numbers.{flagged, sixteen_has}
 
@@ -47,22 +47,22 @@ pub record Same (s t : State) : Type 0 where
 pub record Due (s : State) (q : ℕ) (v : Vlan) (p : ℕ) : Type 0 where
   pub elsewhere : eqb p q ≡ false
   pub forwarding : forwards (state_of s p) ≡ true
-  pub member : has v.members p ≡ true
+  pub member : is_member v p ≡ true
 
 -- an accepted receive lays its frame at each decided port with room
 pub record Lays (σ : Settings) (s : State) (q : ℕ) (frame : List ℕ) (r : Received) (t : State) : Type 0 where
   pub started : t.started ≡ s.started
   pub states : t.states ≡ s.states
   pub picture : Picture
-  pub read : parse frame ≡ Ok picture
+  pub read : read_at σ q frame ≡ Ok picture
   pub vlan : Vlan
-  pub vid : vlan.vid ≡ r.classified.vid
+  pub vid : vlan.vid ≡ r.classified.0
   pub created : vlan_of σ.vlans vlan.vid ≡ Some vlan
   pub due : (p : ℕ) → has r.decided p ≡ true → Due s q vlan p
   pub queues :
       (p c : ℕ) → t.queues p c ≡
-      cond (lays r.decided r.no_room p && eqb c (class_of σ.classes r.classified.priority))
-      (s.queues p c ++ (sendable picture vlan r.classified.priority p ∷ [])) (s.queues p c)
+      cond (lays_in σ r.decided r.no_room r.classified.1 p c)
+      (s.queues p c ++ (sendable picture vlan r.classified.1 p ∷ [])) (s.queues p c)
 
 -- an accepted send takes the oldest frame of a class
 pub record Hands (s : State) (p : ℕ) (x : Sent) (bytes : List ℕ) (t : State) : Type 0 where
@@ -115,7 +115,7 @@ refuses : {σ : Settings} {s t : State} {call : Call} → Same s t → (r : Refu
 refuses e r = rested (record { received = refl; sent = refl; emptied = refl }) e
 
 -- the same state but for its entries and its clock
-same_but_entries : (s : State) (t : ℕ) (es : List Entry) → Same s (with_clock s t es)
+same_but_entries : (s : State) (t : ℕ) (es : List Entry) → Same s (record s { clock = t; entries = es })
 same_but_entries s t es = record { started = refl; states = refl; queues = λ p c. refl }
 
 asks : {σ : Settings} {s : State} {call : Call} (yes' : Bool) (r : Refusal) (t : State) (then' : Outcome) → Same s t → Does σ s call then' → Does σ s call (asking yes' r t then')
@@ -123,8 +123,8 @@ asks {σ} {s} {call} yes' r t then' e d = cond_both yes' then' (refusing r t) (D
 
 -- RECEIVE
 
-learned_same : (s : State) (b : Bool) (es : List Entry) → Same s (cond b (with_entries s es) s)
-learned_same s b es = cond_both b (with_entries s es) s (Same s) (λ _. same_but_entries s s.clock es) (λ _. same s)
+learned_same : (s : State) (b : Bool) (es : List Entry) → Same s (cond b (record s { entries = es }) s)
+learned_same s b es = cond_both b (record s { entries = es }) s (Same s) (λ _. same_but_entries s s.clock es) (λ _. same s)
 
 due_of : (σ : Settings) (s t : State) → Same s t → (q : ℕ) (v : Vlan) (a : List ℕ) (p : ℕ) → decides σ t q v a p ≡ true → Due s q v p
 due_of σ s t e q v a p d =
@@ -138,13 +138,12 @@ due_of σ s t e q v a p d =
       member = member.1;
     }
 
-module _ (σ : Settings) (s t : State) (e : Same s t) (q memory : ℕ) (frame : List ℕ) (picture : Picture) (read : parse frame ≡ Ok picture) (v : Vlan) (created : vlan_of σ.vlans v.vid ≡ Some v) (priority : ℕ) (mark : Mark) where
-  flood_does : Does σ s (receive q frame memory) (flood σ t q picture v priority mark (decided σ t q v picture.destination))
+module _ (σ : Settings) (s t : State) (e : Same s t) (q memory : ℕ) (frame : List ℕ) (picture : Picture) (read : read_at σ q frame ≡ Ok picture) (v : Vlan) (created : vlan_of σ.vlans v.vid ≡ Some v) (priority : ℕ) (mark : Mark) where
+  flood_does : Does σ s (receive q frame memory) (flood σ t picture v priority mark (decided σ t q v picture.destination))
   flood_does =
       let reach : Ports = decided σ t q v picture.destination in
-      let class : ℕ = class_of σ.classes priority in
-      let full : Ports = without_room σ t class reach in
-      cond_both (any_in reach.held) _ _ (Does σ s (receive q frame memory))
+      let full : Ports = without_room σ t priority reach in
+      cond_both (has_any reach) _ _ (Does σ s (receive q frame memory))
       (λ _. laying
       (record {
         started = e.started;
@@ -155,7 +154,7 @@ module _ (σ : Settings) (s t : State) (e : Same s t) (q memory : ℕ) (frame : 
         vid = refl;
         created = created;
         due = λ p d. due_of σ s t e q v picture.destination p (sixteen_has (decides σ t q v picture.destination) p d);
-        queues = λ p c. ap (λ l. cond (lays reach full p && eqb c class) (l ++ (sendable picture v priority p ∷ [])) l) (e.queues p c);
+        queues = λ p c. ap (λ l. cond (lays_in σ reach full priority p c) (l ++ (sendable picture v priority p ∷ [])) l) (e.queues p c);
       }))
       (λ _. refuses e (NoEgressPort mark))
 
@@ -164,7 +163,7 @@ module _ (σ : Settings) (s t : State) (e : Same s t) (q memory : ℕ) (frame : 
       asks (forwards (state_of t q)) (PortNotForwarding mark) t _ e
       (asks (not (reserved picture.destination)) (ReservedDestination mark) t _ e flood_does)
 
-learning_does : (σ : Settings) (s : State) (q memory : ℕ) (frame : List ℕ) (picture : Picture) → parse frame ≡ Ok picture → (v : Vlan) → vlan_of σ.vlans v.vid ≡ Some v → (priority : ℕ) → Does σ s (receive q frame memory) (learning σ s q picture v priority)
+learning_does : (σ : Settings) (s : State) (q memory : ℕ) (frame : List ℕ) (picture : Picture) → read_at σ q frame ≡ Ok picture → (v : Vlan) → vlan_of σ.vlans v.vid ≡ Some v → (priority : ℕ) → Does σ s (receive q frame memory) (learning σ s q picture v priority)
 learning_does σ s q memory frame picture read v created priority =
     asks (learns (state_of s q)) PortNotLearning s _ (same s)
     (relay_does σ s (learned σ s q v picture.source) (learned_same s (learnable σ v.vid q picture.source) _) q memory frame picture read v created priority _)
@@ -175,25 +174,25 @@ no_err e = absurd (false≢true (ap is_ok e))
 -- the VLAN that a frame enters by is created, and found under its own VID
 member_vlan : (port : PortSettings) (p : ℕ) (o : Option Vlan) (v : Vlan) → of_member port p o ≡ Ok v → o ≡ Some v
 member_vlan port p None v e = no_err e
-member_vlan port p (Some w) v e = go (has w.members p || not port.ingress_filtering) e
+member_vlan port p (Some w) v e = go (is_member w p || not port.ingress_filtering) e
   where
     go : (b : Bool) → cond b (Ok w) (Err NotMember) ≡ Ok v → Some w ≡ Some v
     go true f = let same' : w ≡ v = cc in ap Some same'
     go false f = no_err f
 
 ingress_vlan : (σ : Settings) (p : ℕ) (tag : Option Tag) (v : Vlan) → ingress σ p tag ≡ Ok v → vlan_of σ.vlans v.vid ≡ Some v
-ingress_vlan σ p tag v e = go (admitted (port_of σ p) tag) e
+ingress_vlan σ p tag v e = go (admitted (port_settings σ p) tag) e
   where
-    go : (b : Bool) → cond b (of_member (port_of σ p) p (vlan_of σ.vlans (placed (port_of σ p) tag).vid)) (Err FrameNotAdmitted) ≡ Ok v → vlan_of σ.vlans v.vid ≡ Some v
-    go true f = found_again σ.vlans (placed (port_of σ p) tag).vid v (member_vlan (port_of σ p) p _ v f)
+    go : (b : Bool) → cond b (of_member (port_settings σ p) p (vlan_of σ.vlans (classified_at σ p tag).0)) (Err FrameNotAdmitted) ≡ Ok v → vlan_of σ.vlans v.vid ≡ Some v
+    go true f = found_again σ.vlans (classified_at σ p tag).0 v (member_vlan (port_settings σ p) p _ v f)
     go false f = no_err f
 
-entering_does : (σ : Settings) (s : State) (q memory : ℕ) (frame : List ℕ) (picture : Picture) → parse frame ≡ Ok picture → (o : Result Vlan Refusal) → ingress σ q picture.tag ≡ o → Does σ s (receive q frame memory) (entering σ s q picture o)
+entering_does : (σ : Settings) (s : State) (q memory : ℕ) (frame : List ℕ) (picture : Picture) → read_at σ q frame ≡ Ok picture → (o : Result Vlan Refusal) → ingress σ q picture.tag ≡ o → Does σ s (receive q frame memory) (entering σ s q picture o)
 entering_does σ s q memory frame picture read (Err r) e = refuses (same s) r
 entering_does σ s q memory frame picture read (Ok v) e =
-    learning_does σ s q memory frame picture read v (ingress_vlan σ q picture.tag v e) (placed (port_of σ q) picture.tag).priority
+    learning_does σ s q memory frame picture read v (ingress_vlan σ q picture.tag v e) (classified_at σ q picture.tag).1
 
-reading_does : (σ : Settings) (s : State) (q memory : ℕ) (frame : List ℕ) (o : Result Picture Refusal) → parse frame ≡ o → Does σ s (receive q frame memory) (reading σ s q o)
+reading_does : (σ : Settings) (s : State) (q memory : ℕ) (frame : List ℕ) (o : Result Picture Refusal) → read_at σ q frame ≡ o → Does σ s (receive q frame memory) (reading σ s q o)
 reading_does σ s q memory frame (Err r) e = refuses (same s) r
 reading_does σ s q memory frame (Ok picture) e = entering_does σ s q memory frame picture e (ingress σ q picture.tag) refl
 
@@ -260,8 +259,8 @@ moved_does σ s p n new leaves = go (forwards (state_of s p)) refl
     go : (b : Bool) → forwards (state_of s p) ≡ b
         → Does σ s (event p n)
         (cond b
-        (outcome (emptied (standing_at s p)) (with_queues (with_states s (set s.states p new)) (emptied_queues s p) s.slots))
-        (outcome (emptied 0) (with_states s (set s.states p new))))
+        (outcome (emptied (standing_at s p)) (record s { states = set s.states p new; queues = emptied_queues s p }))
+        (outcome (emptied 0) (record s { states = set s.states p new })))
     go true f = cleared (record { started = refl; new = new; states = refl; number = refl; leaves = leaves f; queues = λ q c. refl })
     go false f = shifted (record { started = refl; new = new; states = refl; number = refl; was = f; queues = λ q c. refl })
 
@@ -288,12 +287,13 @@ does : (σ : Settings) (s : State) (call : Call) (choice : Option ℕ) → Choos
 does σ s (receive q frame memory) choice h =
     asks s.started NotStarted s _ (same s)
     (asks (ltb q σ.ports) PortOutOfRange s _ (same s)
-    (asks (leb (memory_needed σ) memory) FrameMemoryTooSmall s _ (same s) (reading_does σ s q memory frame (parse frame) refl)))
+    (asks (leb (memory_needed σ) memory) FrameMemoryTooSmall s _ (same s) (reading_does σ s q memory frame (read_at σ q frame) refl)))
 does σ s (send p memory output) choice h =
     asks s.started NotStarted s _ (same s)
     (asks (ltb p σ.ports) PortOutOfRange s _ (same s)
     (asks (leb (memory_needed σ) memory) FrameMemoryTooSmall s _ (same s)
-    (asks (leb 1518 output) OutputMemoryTooSmall s _ (same s) (choosing_does σ s p memory output choice h))))
+    (asks (leb 1518 output) OutputMemoryTooSmall s _ (same s)
+    (asks (frame_stands s p) NoFrameStands s _ (same s) (choosing_does σ s p memory output choice h)))))
 does σ s (advance t) choice h =
     asks s.started NotStarted s _ (same s)
     (asks (leb s.clock t) TimeBeforeClock s _ (same s)

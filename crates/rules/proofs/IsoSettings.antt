@@ -64,12 +64,12 @@ pub verdict_same : {f : ℕ} {σ τ : Settings} → Alike f σ τ → (vid : ℕ
 verdict_same s vid a p h = ap (λ o. says o p) (s.statics vid a h)
 
 -- a VID of the database whose static entry says it
-record Said (is : Verdict → Bool) (σ : Settings) (f : ℕ) (a : List ℕ) (p : ℕ) : Type 0 where
-  vid : ℕ
-  own : is_of f (vlan_of σ.vlans vid) ≡ true
-  says' : is (verdict_at σ vid a p) ≡ true
+pub record Said (is : Verdict → Bool) (σ : Settings) (f : ℕ) (a : List ℕ) (p : ℕ) : Type 0 where
+  pub vid : ℕ
+  pub own : is_of f (vlan_of σ.vlans vid) ≡ true
+  pub says' : is (verdict_at σ vid a p) ≡ true
 
-said : (is : Verdict → Bool) (σ : Settings) (f : ℕ) (a : List ℕ) (p : ℕ) (es : List StaticEntry) → any_says is σ es f a p ≡ true → Said is σ f a p
+pub said : (is : Verdict → Bool) (σ : Settings) (f : ℕ) (a : List ℕ) (p : ℕ) (es : List StaticEntry) → any_says is σ es f a p ≡ true → Said is σ f a p
 said is σ f a p [] h = absurd (true≢false (sym h))
 said is σ f a p (e ∷ es) h =
     go (said is σ f a p es) (bytes_eq e.address a && is_of f (vlan_of σ.vlans e.vid) && is (verdict_at σ e.vid a p)) refl h
@@ -96,7 +96,7 @@ says_any is σ f a p x w (e ∷ es) h = go (says_any is σ f a p x w es) (eqb e.
     go ih false q k = cond_both (test e.vid) true _ (λ x. x ≡ true) (λ _. refl) (λ _. ih k)
 
 -- where nothing is said there is nothing to find, so that the look-up of a VID that says it finds an entry
-any_from : (is : Verdict → Bool) (σ : Settings) (f : ℕ) (a : List ℕ) (p : ℕ) → is Silent ≡ false → Said is σ f a p → any_says is σ σ.statics f a p ≡ true
+pub any_from : (is : Verdict → Bool) (σ : Settings) (f : ℕ) (a : List ℕ) (p : ℕ) → is Silent ≡ false → Said is σ f a p → any_says is σ σ.statics f a p ≡ true
 any_from is σ f a p n w = go (static_of σ.statics w.vid a) refl w.says'
   where
     go : (o : Option StaticEntry) → static_of σ.statics w.vid a ≡ o → is (says o p) ≡ true → any_says is σ σ.statics f a p ≡ true

@@ -3,19 +3,19 @@ use Rattle.std.proofs.Common.{◌≡◌, ℕ, Bool, true, false, cond, not, ◌&
 use Rattle.std.proofs.lemmas.Bool.{cond_both, true≢false, eqb-false}
 use Rattle.fault.specs.declared.mark.Mark.{Mark}
 use Rattle.fault.specs.declared.refusal.Refusal.{Refusal}
-use Rattle.fault.specs.declared.refusal.Refusal.TheVariants.{NotStarted, PortOutOfRange, FrameMemoryTooSmall, FrameNotAdmitted, NotMember, PortNotLearning, PortNotForwarding, ReservedDestination, OutputMemoryTooSmall}
+use Rattle.fault.specs.declared.refusal.Refusal.TheVariants.{NotStarted, PortOutOfRange, FrameMemoryTooSmall, FrameNotAdmitted, NotMember, PortNotLearning, PortNotForwarding, ReservedDestination, OutputMemoryTooSmall, NoFrameStands}
 use Rattle.frame.specs.Address.{reserved}
-use Rattle.frame.specs.Reading.{Picture, parse}
+use Rattle.frame.specs.Reading.{Picture}
 use Rattle.table.specs.Calls.{answered, flushed}
 use Rattle.table.specs.Rising.{rises}
-use Rattle.rules.specs.Ports.{Ports}
+use Rattle.rules.specs.Ports.{Ports, has_any}
 use Rattle.rules.specs.declared.vlans.Vlan.{Vlan}
-use Rattle.rules.specs.Calls.{Call, Outcome, advance, asking, choosing, counted, entering, event, find, finding, flood, flush, flushing, handing, learning, memory_needed, outcome, perform, reading, receive, receiving, refusing, relay, send, sending, standing}
-use Rattle.rules.specs.Ingress.{admitted, of_member, placed}
+use Rattle.rules.specs.Calls.{Call, Outcome, advance, asking, choosing, counted, entering, event, find, finding, flood, flush, flushing, handing, learning, memory_needed, outcome, perform, picking, reading, receive, receiving, refusing, relay, send, sending, standing}
+use Rattle.rules.specs.Ingress.{admitted, classified_at, of_member, read_at}
 use Rattle.rules.specs.Laws.{concerns, concerns_frame}
-use Rattle.rules.specs.Relay.{any_in, decided, forwards, learnable, learned, learns, mark_of}
-use Rattle.rules.specs.Settings.{Settings, has, is_of, port_of, vlan_of}
-use Rattle.rules.specs.State.{Queued, State, standing_at, state_of}
+use Rattle.rules.specs.Relay.{decided, forwards, learnable, learned, learns, mark_of}
+use Rattle.rules.specs.Settings.{Settings, is_member, is_of, port_settings, vlan_of}
+use Rattle.rules.specs.State.{Queued, State, frame_stands, standing_at, state_of}
 use Rattle.rules.proofs.IsoTable.{view_other_flushed, view_other_learned, view_same}
 use Rattle.rules.proofs.IsoStep.{Same}
 
@@ -31,16 +31,16 @@ second x y h k = ap (λ b. b && y) (sym h) ∙ k
 
 -- receive, from its end to its beginning
 
-skip_flood : (f : ℕ) (σ : Settings) (s t : State) (q : ℕ) (frame : Picture) (v : Vlan) (priority : ℕ) (mark : Mark) (set : Ports) → Same f s t → Same f (flood σ s q frame v priority mark set).after t
-skip_flood f σ s t q frame v priority mark set h =
-    cond_both (any_in set.held) _ _ (λ (x : Outcome). Same f x.after t)
+skip_flood : (f : ℕ) (σ : Settings) (s t : State) (frame : Picture) (v : Vlan) (priority : ℕ) (mark : Mark) (set : Ports) → Same f s t → Same f (flood σ s frame v priority mark set).after t
+skip_flood f σ s t frame v priority mark set h =
+    cond_both (has_any set) _ _ (λ (x : Outcome). Same f x.after t)
     (λ _. record { started = h.started; clock = h.clock; states = h.states; entries = h.entries }) (λ _. h)
 
 skip_relay : (f : ℕ) (σ : Settings) (s t : State) (q : ℕ) (frame : Picture) (v : Vlan) (priority : ℕ) (mark : Mark) → Same f s t → Same f (relay σ s q frame v priority mark).after t
 skip_relay f σ s t q frame v priority mark h =
     ask f (forwards (state_of s q)) (PortNotForwarding mark) s t _ h (λ _.
     ask f (not (reserved frame.destination)) (ReservedDestination mark) s t _ h (λ _.
-    skip_flood f σ s t q frame v priority mark (decided σ s q v frame.destination) h))
+    skip_flood f σ s t frame v priority mark (decided σ s q v frame.destination) h))
 
 skip_learned : (f : ℕ) (σ : Settings) (s : State) (q : ℕ) (v : Vlan) (a : List ℕ) → (v.fid ≡ f → ⊥) → rises s.entries ≡ true → Same f (learned σ s q v a) s
 skip_learned f σ s q v a n r =
@@ -53,28 +53,28 @@ skip_learning f σ s q frame v priority n r =
     ask f (learns (state_of s q)) PortNotLearning s s _ (same_self f s r) (λ _.
     skip_relay f σ (learned σ s q v frame.source) s q frame v priority (mark_of σ s q v frame.source) (skip_learned f σ s q v frame.source n r))
 
-skip_entering : (f : ℕ) (σ : Settings) (s : State) (q : ℕ) (frame : Picture) (o : Option Vlan) → is_of f o ≡ false → rises s.entries ≡ true → (b : Bool) → Same f (entering σ s q frame (cond b (of_member (port_of σ q) q o) (Err FrameNotAdmitted))).after s
+skip_entering : (f : ℕ) (σ : Settings) (s : State) (q : ℕ) (frame : Picture) (o : Option Vlan) → is_of f o ≡ false → rises s.entries ≡ true → (b : Bool) → Same f (entering σ s q frame (cond b (of_member (port_settings σ q) q o) (Err FrameNotAdmitted))).after s
 skip_entering f σ s q frame None i r true = same_self f s r
 skip_entering f σ s q frame None i r false = same_self f s r
-skip_entering f σ s q frame (Some v) i r true = go (has v.members q || not (port_of σ q).ingress_filtering)
+skip_entering f σ s q frame (Some v) i r true = go (is_member v q || not (port_settings σ q).ingress_filtering)
   where
     go : (b : Bool) → Same f (entering σ s q frame (cond b (Ok v) (Err NotMember))).after s
-    go true = skip_learning f σ s q frame v (placed (port_of σ q) frame.tag).priority (eqb-false v.fid f i) r
+    go true = skip_learning f σ s q frame v (classified_at σ q frame.tag).1 (eqb-false v.fid f i) r
     go false = same_self f s r
 skip_entering f σ s q frame (Some v) i r false = same_self f s r
 
 skip_reading : (f : ℕ) (σ : Settings) (s : State) (q : ℕ) (x : Result Picture Refusal) → concerns_frame σ f q x ≡ false → rises s.entries ≡ true → Same f (reading σ s q x).after s
 skip_reading f σ s q (Err e) i r = same_self f s r
 skip_reading f σ s q (Ok frame) i r =
-    skip_entering f σ s q frame (vlan_of σ.vlans (placed (port_of σ q) frame.tag).vid) i r (admitted (port_of σ q) frame.tag)
+    skip_entering f σ s q frame (vlan_of σ.vlans (classified_at σ q frame.tag).0) i r (admitted (port_settings σ q) frame.tag)
 
-skip_receive : (f : ℕ) (σ : Settings) (s : State) (q : ℕ) (frame : List ℕ) (memory : ℕ) → (ltb q σ.ports && concerns_frame σ f q (parse frame)) ≡ false → rises s.entries ≡ true → Same f (receiving σ s q frame memory).after s
+skip_receive : (f : ℕ) (σ : Settings) (s : State) (q : ℕ) (frame : List ℕ) (memory : ℕ) → (ltb q σ.ports && concerns_frame σ f q (read_at σ q frame)) ≡ false → rises s.entries ≡ true → Same f (receiving σ s q frame memory).after s
 skip_receive f σ s q frame memory i r =
     let h = same_self f s r in
     ask f s.started NotStarted s s _ h (λ _.
     ask f (ltb q σ.ports) PortOutOfRange s s _ h (λ p.
     ask f (leb (memory_needed σ) memory) FrameMemoryTooSmall s s _ h (λ _.
-    skip_reading f σ s q (parse frame) (second (ltb q σ.ports) (concerns_frame σ f q (parse frame)) p i) r)))
+    skip_reading f σ s q (read_at σ q frame) (second (ltb q σ.ports) (concerns_frame σ f q (read_at σ q frame)) p i) r)))
 
 -- send, flush, find and standing read
 
@@ -92,7 +92,8 @@ skip_send f σ s p memory output o r =
     ask f s.started NotStarted s s _ h (λ _.
     ask f (ltb p σ.ports) PortOutOfRange s s _ h (λ _.
     ask f (leb (memory_needed σ) memory) FrameMemoryTooSmall s s _ h (λ _.
-    ask f (leb 1518 output) OutputMemoryTooSmall s s _ h (λ _. skip_choosing f s p o r))))
+    ask f (leb 1518 output) OutputMemoryTooSmall s s _ h (λ _.
+    ask f (frame_stands s p) NoFrameStands s s _ h (λ _. skip_choosing f s p o r)))))
 
 skip_flushing : (f : ℕ) (s : State) (g : ℕ) (x : Result ℕ Refusal) → (g ≡ f → ⊥) → rises s.entries ≡ true → Same f (flushing s g x).after s
 skip_flushing f s g (Ok k) n r =

@@ -8,22 +8,22 @@ use Rattle.fault.specs.declared.mark.Mark.TheVariants.{Unlearned}
 use Rattle.fault.specs.declared.refusal.Refusal.{Refusal}
 use Rattle.fault.specs.declared.refusal.Refusal.TheVariants.{NotStarted, PortOutOfRange, FrameMemoryTooSmall, FrameNotAdmitted, NotMember, PortNotLearning, PortNotForwarding, ReservedDestination, NoEgressPort, TimeBeforeClock, TimeTooLarge, UnknownEvent, NoTransition}
 use Rattle.frame.specs.Address.{group, reserved}
-use Rattle.frame.specs.Reading.{Picture, parse}
+use Rattle.frame.specs.Reading.{Picture}
 use Rattle.table.specs.declared.entry.Entry.{Entry}
 use Rattle.table.specs.Calls.{after_learn, answered, flushed, mark_at, port_of as entry_port}
 use Rattle.table.specs.Entries.{count_of, lookup}
 use Rattle.rules.specs.declared.ports.PortEvent.{PortEvent}
-use Rattle.rules.specs.Ports.{Ports}
+use Rattle.rules.specs.Ports.{Ports, has_any, ports_where}
 use Rattle.rules.specs.declared.ports.PortState.{PortState}
 use Rattle.rules.specs.declared.vlans.StaticEntry.{StaticEntry}
 use Rattle.rules.specs.declared.vlans.Verdict.{Verdict}
 use Rattle.rules.specs.declared.vlans.Vlan.{Vlan}
 use Rattle.rules.specs.Calls.{Call, Outcome, advance, advancing, ageing_time, asking, entering, event, event_of, eventing, find, finding, flood, flush, flushing, happening, learning, memory_needed, moving, next_state, perform, reading, receive, receiving, refusing, relay, send, standing}
-use Rattle.rules.specs.Ingress.{admitted, ingress, of_member, placed}
-use Rattle.rules.specs.Laws.{Alike, concerns, concerns_frame, plain}
-use Rattle.rules.specs.Relay.{any_in, decided, entry_lets, forwards, learnable, learns, let_through}
-use Rattle.rules.specs.Settings.{Settings, has, is_filter, is_forward, is_of, is_silent, port_of, vlan_of}
-use Rattle.rules.specs.State.{Queued, State, sixteen, state_of, with_entries}
+use Rattle.rules.specs.Ingress.{admitted, classified_at, ingress, of_member, read_at}
+use Rattle.rules.specs.Laws.{Alike, but_room, concerns, concerns_frame}
+use Rattle.rules.specs.Relay.{decided, entry_lets, forwards, learnable, learns, let_through}
+use Rattle.rules.specs.Settings.{Settings, is_filter, is_forward, is_member, is_of, is_silent, port_settings, vlan_of}
+use Rattle.rules.specs.State.{Queued, State, state_of}
 use Rattle.rules.proofs.IsoTable.{View, view_aged, view_flushed, view_found, view_learned, view_left, view_lookup, view_number}
 use Rattle.rules.proofs.IsoSettings.{any_same, found_again, same_vlan, verdict_same}
 
@@ -36,25 +36,15 @@ pub record Same (f : ℕ) (s t : State) : Type 0 where
 
 -- outcomes that look alike to it
 pub record Agree (f : ℕ) (o n : Outcome) : Type 0 where
-  pub answer : plain o.answer ≡ plain n.answer
+  pub answer : but_room o.answer ≡ but_room n.answer
   pub after : Same f o.after n.after
 
 -- a bridge with other VLANs and static entries, and a state with other entries and queues
 abbrev other : Settings → List Vlan → List StaticEntry → Settings
-other σ vs es =
-    record {
-      ports = σ.ports;
-      classes = σ.classes;
-      depth = σ.depth;
-      share = σ.share;
-      ageing = σ.ageing;
-      port = σ.port;
-      vlans = vs;
-      statics = es;
-    }
+other σ vs es = record σ { vlans = vs; statics = es }
 
 abbrev beside : State → List Entry → (ℕ → ℕ → List Queued) → (ℕ → ℕ → ℕ) → State
-beside s m q n = record { started = s.started; clock = s.clock; states = s.states; entries = m; queues = q; slots = n }
+beside s m q n = record s { entries = m; queues = q; slots = n }
 
 -- questions
 
@@ -68,9 +58,6 @@ ask f false r s t o n h k = refuse f r s t h
 either : (f : ℕ) (b : Bool) (o n o' n' : Outcome) → Agree f o n → Agree f o' n' → Agree f (cond b o o') (cond b n n')
 either f true o n o' n' h k = h
 either f false o n o' n' h k = k
-
-abbrev set_of : (ℕ → Bool) → Ports
-set_of h = record { held = map h sixteen }
 
 abbrev through : Bool → Verdict → Bool → Bool → Option Entry → ℕ → Bool
 through g x yes' no' o p = cond g (not (is_filter x)) (cond yes' true (cond no' false (entry_lets (entry_port o) p)))
@@ -131,9 +118,9 @@ module _ (σ : Settings) (vs : List Vlan) (es : List StaticEntry) (f : ℕ) (s :
       ask_agrees s.started NotStarted _ _
       (subst (λ x. Agree f (finding s (answered s.entries f a)) (finding (beside s m k n) x)) (view_found f a s.entries m h) (finding_agrees (answered s.entries f a)))
 
-  flood_agrees : (q : ℕ) (frame : Picture) (v : Vlan) (priority : ℕ) (mark : Mark) (set : Ports) → Agree f (flood σ s q frame v priority mark set) (flood (other σ vs es) (beside s m k n) q frame v priority mark set)
-  flood_agrees q frame v priority mark set =
-      either f (any_in set.held) _ _ _ _
+  flood_agrees : (frame : Picture) (v : Vlan) (priority : ℕ) (mark : Mark) (set : Ports) → Agree f (flood σ s frame v priority mark set) (flood (other σ vs es) (beside s m k n) frame v priority mark set)
+  flood_agrees frame v priority mark set =
+      either f (has_any set) _ _ _ _
       (record { answer = refl; after = record { started = refl; clock = refl; states = refl; entries = h } })
       (no_agrees (NoEgressPort mark))
 
@@ -144,14 +131,14 @@ module _ (σ : Settings) (vs : List Vlan) (es : List StaticEntry) (v : Vlan) (al
       let a = frame.destination in
       let lets : (p : ℕ) → let_through σ s v a p ≡ let_through (other σ vs es) (beside s m k n) v a p =
       λ p i. through (group a) (verdict_same alike v.vid a p here i) (any_same is_forward alike a p refl i) (any_same is_filter alike a p refl i) (view_lookup v.fid a s.entries m h i) p in
-      ap set_of (fun_ext (λ p. ap (λ b. ltb p σ.ports && not (eqb p q) && forwards (state_of s p) && has v.members p && b) (lets p)))
+      ap ports_where (fun_ext (λ p. ap (λ b. ltb p σ.ports && not (eqb p q) && forwards (state_of s p) && is_member v p && b) (lets p)))
 
   relay_agrees : (s : State) (m : List Entry) (mark : Mark) → View v.fid s.entries m → Agree v.fid (relay σ s q frame v priority mark) (relay (other σ vs es) (beside s m k n) q frame v priority mark)
   relay_agrees s m mark h =
       let set = decided σ s q v frame.destination in
       ask_agrees σ vs es v.fid s m k n h (forwards (state_of s q)) (PortNotForwarding mark) _ _
       (ask_agrees σ vs es v.fid s m k n h (not (reserved frame.destination)) (ReservedDestination mark) _ _
-      (subst (λ x. Agree v.fid (flood σ s q frame v priority mark set) (flood (other σ vs es) (beside s m k n) q frame v priority mark x)) (decided_same s m h) (flood_agrees σ vs es v.fid s m k n h q frame v priority mark set)))
+      (subst (λ x. Agree v.fid (flood σ s frame v priority mark set) (flood (other σ vs es) (beside s m k n) frame v priority mark x)) (decided_same s m h) (flood_agrees σ vs es v.fid s m k n h frame v priority mark set)))
 
   learning_agrees : (s : State) (m : List Entry) → View v.fid s.entries m → Agree v.fid (learning σ s q frame v priority) (learning (other σ vs es) (beside s m k n) q frame v priority)
   learning_agrees s m h =
@@ -165,29 +152,29 @@ module _ (σ : Settings) (vs : List Vlan) (es : List StaticEntry) (v : Vlan) (al
       mark l = mark_at σ.share (count_of v.fid l) q (lookup l v.fid frame.source)
 
       left : Bool → Outcome
-      left b = relay σ (cond b (with_entries s (after s.entries)) s) q frame v priority (cond b (mark s.entries) Unlearned)
+      left b = relay σ (cond b (record s { entries = after s.entries }) s) q frame v priority (cond b (mark s.entries) Unlearned)
 
       right : Bool → Outcome
-      right b = relay (other σ vs es) (cond b (with_entries (beside s m k n) (after m)) (beside s m k n)) q frame v priority (cond b (mark m) Unlearned)
+      right b = relay (other σ vs es) (cond b (record (beside s m k n) { entries = after m }) (beside s m k n)) q frame v priority (cond b (mark m) Unlearned)
 
       marks : mark s.entries ≡ mark m
       marks = λ i. mark_at σ.share (view_number v.fid s.entries m h i) q (view_lookup v.fid frame.source s.entries m h i)
 
       both : (b : Bool) → Agree v.fid (left b) (right b)
       both true =
-          subst (λ x. Agree v.fid (left true) (relay (other σ vs es) (beside (with_entries s (after s.entries)) (after m) k n) q frame v priority x)) marks
-          (relay_agrees (with_entries s (after s.entries)) (after m) (mark s.entries) (view_learned v.fid σ.share frame.source q s.clock s.entries m h))
+          subst (λ x. Agree v.fid (left true) (relay (other σ vs es) (beside (record s { entries = after s.entries }) (after m) k n) q frame v priority x)) marks
+          (relay_agrees (record s { entries = after s.entries }) (after m) (mark s.entries) (view_learned v.fid σ.share frame.source q s.clock s.entries m h))
       both false = relay_agrees s m Unlearned h
 
 -- receive, and every call
 module _ (σ : Settings) (vs : List Vlan) (es : List StaticEntry) (f : ℕ) (s : State) (m : List Entry) (k : ℕ → ℕ → List Queued) (n : ℕ → ℕ → ℕ) (h : View f s.entries m) (alike : Alike f σ (other σ vs es)) where
-  entering_agrees : (q : ℕ) (frame : Picture) (vid : ℕ) (o : Option Vlan) → vlan_of σ.vlans vid ≡ o → is_of f o ≡ true → (b : Bool) → Agree f (entering σ s q frame (cond b (of_member (port_of σ q) q o) (Err FrameNotAdmitted))) (entering (other σ vs es) (beside s m k n) q frame (cond b (of_member (port_of σ q) q o) (Err FrameNotAdmitted)))
+  entering_agrees : (q : ℕ) (frame : Picture) (vid : ℕ) (o : Option Vlan) → vlan_of σ.vlans vid ≡ o → is_of f o ≡ true → (b : Bool) → Agree f (entering σ s q frame (cond b (of_member (port_settings σ q) q o) (Err FrameNotAdmitted))) (entering (other σ vs es) (beside s m k n) q frame (cond b (of_member (port_settings σ q) q o) (Err FrameNotAdmitted)))
   entering_agrees q frame vid None e i b = absurd (true≢false (sym i))
   entering_agrees q frame vid (Some v) e i false = no_agrees σ vs es f s m k n h FrameNotAdmitted
-  entering_agrees q frame vid (Some v) e i true = member (has v.members q || not (port_of σ q).ingress_filtering)
+  entering_agrees q frame vid (Some v) e i true = member (is_member v q || not (port_settings σ q).ingress_filtering)
     where
       priority : ℕ
-      priority = (placed (port_of σ q) frame.tag).priority
+      priority = (classified_at σ q frame.tag).1
 
       own : Agree f (learning σ s q frame v priority) (learning (other σ vs es) (beside s m k n) q frame v priority)
       own =
@@ -201,18 +188,18 @@ module _ (σ : Settings) (vs : List Vlan) (es : List StaticEntry) (f : ℕ) (s :
   reading_agrees : (q : ℕ) (x : Result Picture Refusal) → concerns_frame σ f q x ≡ true → Agree f (reading σ s q x) (reading (other σ vs es) (beside s m k n) q x)
   reading_agrees q (Err r) i = absurd (true≢false (sym i))
   reading_agrees q (Ok frame) i =
-      let vid = (placed (port_of σ q) frame.tag).vid in
-      let b = admitted (port_of σ q) frame.tag in
-      subst (λ o. Agree f (entering σ s q frame (ingress σ q frame.tag)) (entering (other σ vs es) (beside s m k n) q frame (cond b (of_member (port_of σ q) q o) (Err FrameNotAdmitted)))) (same_vlan f (vlan_of σ.vlans vid) (vlan_of vs vid) (alike.vlans vid) i) (entering_agrees q frame vid (vlan_of σ.vlans vid) refl i b)
+      let vid = (classified_at σ q frame.tag).0 in
+      let b = admitted (port_settings σ q) frame.tag in
+      subst (λ o. Agree f (entering σ s q frame (ingress σ q frame.tag)) (entering (other σ vs es) (beside s m k n) q frame (cond b (of_member (port_settings σ q) q o) (Err FrameNotAdmitted)))) (same_vlan f (vlan_of σ.vlans vid) (vlan_of vs vid) (alike.vlans vid) i) (entering_agrees q frame vid (vlan_of σ.vlans vid) refl i b)
 
-  receive_agrees : (q : ℕ) (frame : List ℕ) (memory : ℕ) → concerns_frame σ f q (parse frame) ≡ true → Agree f (receiving σ s q frame memory) (receiving (other σ vs es) (beside s m k n) q frame memory)
+  receive_agrees : (q : ℕ) (frame : List ℕ) (memory : ℕ) → concerns_frame σ f q (read_at σ q frame) ≡ true → Agree f (receiving σ s q frame memory) (receiving (other σ vs es) (beside s m k n) q frame memory)
   receive_agrees q frame memory i =
       ask_agrees σ vs es f s m k n h s.started NotStarted _ _
       (ask_agrees σ vs es f s m k n h (ltb q σ.ports) PortOutOfRange _ _
-      (ask_agrees σ vs es f s m k n h (leb (memory_needed σ) memory) FrameMemoryTooSmall _ _ (reading_agrees q (parse frame) i)))
+      (ask_agrees σ vs es f s m k n h (leb (memory_needed σ) memory) FrameMemoryTooSmall _ _ (reading_agrees q (read_at σ q frame) i)))
 
   call_agrees : (call : Call) → concerns σ f call ≡ true → (c d : Option ℕ) → Agree f (perform σ s call c) (perform (other σ vs es) (beside s m k n) call d)
-  call_agrees (receive q frame memory) i c d = receive_agrees q frame memory (and_parts (ltb q σ.ports) (concerns_frame σ f q (parse frame)) i).1
+  call_agrees (receive q frame memory) i c d = receive_agrees q frame memory (and_parts (ltb q σ.ports) (concerns_frame σ f q (read_at σ q frame)) i).1
   call_agrees (send p memory output) i c d = absurd (true≢false (sym i))
   call_agrees (advance t) i c d = advance_agrees σ vs es f s m k n h t
   call_agrees (event p e) i c d = event_agrees σ vs es f s m k n h p e

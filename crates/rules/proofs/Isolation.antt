@@ -3,7 +3,7 @@
 use Rattle.std.proofs.Common.{◌≡◌, ℕ, Bool, true, false, cond, List, [], ◌∷◌, map, None, sym, refl, ap, ◌∙◌, subst, ap₂}
 use Rattle.table.specs.Rising.{rises}
 use Rattle.rules.specs.Calls.{Answer, Call, perform}
-use Rattle.rules.specs.Laws.{Alike, Isolation, concerning, concerns, plain}
+use Rattle.rules.specs.Laws.{Alike, Isolation, but_room, concerning, concerns}
 use Rattle.rules.specs.Runs.{Path', Step}
 use Rattle.rules.specs.Runs.Path'.{stay, go}
 use Rattle.rules.specs.Settings.{Settings}
@@ -14,13 +14,13 @@ use Rattle.rules.proofs.IsoSkip.{same_self, skip}
 -- the answers to calls made one after the other, and no others
 abbrev alone : Settings → State → List Call → List Answer
 alone σ s [] = []
-alone σ s (c ∷ cs) = plain (perform σ s c None).answer ∷ alone σ (perform σ s c None).after cs
+alone σ s (c ∷ cs) = but_room (perform σ s c None).answer ∷ alone σ (perform σ s c None).after cs
 
 abbrev calls : List Step → List Call
 calls steps = map (λ x. x.call) steps
 
 abbrev answers : List Step → List Answer
-answers steps = map (λ x. plain x.answer) steps
+answers steps = map (λ x. but_room x.answer) steps
 
 -- each call concerns the database
 abbrev Concern : Settings → ℕ → List Call → Type 0
@@ -67,7 +67,7 @@ path_alone f {σ} (go {s = s} {t = t} {step = x} {steps = xs} g p) r = one (path
     one ih true i =
         let e = step_agrees (alike_self f σ) (same_self f s r) x.call i g.choice None in
         let h : Same f t (perform σ s x.call None).after = subst (λ z. Same f z (perform σ s x.call None).after) g.leaves e.after in
-        ap₂ (λ y ys. y ∷ ys) (ap plain (sym g.answers) ∙ e.answer) (ih h.entries.left ∙ alone_same (calls kept) (concern_kept σ f xs) (alike_self f σ) h)
+        ap₂ (λ y ys. y ∷ ys) (ap but_room (sym g.answers) ∙ e.answer) (ih h.entries.left ∙ alone_same (calls kept) (concern_kept σ f xs) (alike_self f σ) h)
     one ih false i =
         let h : Same f t s = subst (λ z. Same f z s) g.leaves (skip f σ s x.call g.choice i r) in
         ih h.entries.left ∙ alone_same (calls kept) (concern_kept σ f xs) (alike_self f σ) h

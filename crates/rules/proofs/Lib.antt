@@ -12,4 +12,8 @@ pub mod Draining
 pub mod Quiet
 pub mod Order
 pub mod Waiting
+pub mod Counted
 pub mod Pairing
+pub mod Leaving
+pub mod Existing
+pub mod Ways

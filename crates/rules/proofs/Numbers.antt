@@ -2,13 +2,14 @@
 use Rattle.std.proofs.Common.{◌≡◌, ℕ, zero, suc, ◌+◌, ◌-◌, ◌<◌, Bool, true, false, cond, eqb, ltb, List, [], ◌∷◌, map, length, get_or, sym, refl, ap, ◌∙◌, zero-add, arith}
 use Rattle.std.specs.List.{list_all, range_with_len}
 use Rattle.std.proofs.Math.Nat.{lt_of_not-le}
-use Rattle.std.proofs.lemmas.Bool.{false≢true, ltb-true}
+use Rattle.std.proofs.lemmas.Bool.{false≢true, ltb-true, true≢false}
 use Rattle.std.proofs.lemmas.List.{get_or_past}
 use Rattle.std.proofs.lemmas.List.FromFn.{get_or-map-range_with_len, length-map-range_with_len}
 use Rattle.std.proofs.lemmas.Bool.Decides.{nat_tests}
 use Rattle.rules.specs.Egress.{class_of, class_table}
 use Rattle.rules.proofs.Classes.{passes_at}
-use Rattle.rules.specs.State.{Queued, eight, sixteen, standing_in}
+use Rattle.rules.specs.Ports.{any_in, eight, sixteen}
+use Rattle.rules.specs.State.{Queued, standing_in}
 
 pub eqb_flip : (a b : ℕ) → eqb a b ≡ eqb b a
 eqb_flip a b = grind (arith, nat_tests)
@@ -23,6 +24,13 @@ flagged f n i e =
     let flags = map f (range_with_len 0 n) in
     let h : i < n = lt_of_not-le (λ past. false≢true (sym (get_or_past flags i false (omega (arith, length-map-range_with_len f 0 n))) ∙ e)) in
     (h, sym (flag f n i h) ∙ e)
+
+-- no number is in a set that has none
+pub none_in : (flags : List Bool) (i : ℕ) → any_in flags ≡ false → get_or flags i false ≡ false
+none_in [] i e = refl
+none_in (true ∷ flags) i e = absurd (true≢false e)
+none_in (false ∷ flags) zero e = refl
+none_in (false ∷ flags) (suc i) e = none_in flags i e
 
 pub sixteen_has : (f : ℕ → Bool) (p : ℕ) → get_or (map f sixteen) p false ≡ true → f p ≡ true
 sixteen_has f p e = (flagged f 16 p e).1

@@ -6,7 +6,7 @@ use Rattle.rules.specs.declared.answers.Sent.{Sent}
 use Rattle.rules.specs.declared.ports.PortState.{PortState}
 use Rattle.rules.specs.declared.ports.PortState.TheVariants.{Disabled}
 use Rattle.rules.specs.Calls.{Answer, Call}
-use Rattle.rules.specs.Egress.{class_of, lays, sendable}
+use Rattle.rules.specs.Egress.{lays_in, sendable}
 use Rattle.rules.specs.Relay.{forwards}
 use Rattle.rules.specs.Settings.{Settings}
 use Rattle.rules.specs.State.{State, at_start, state_of}
@@ -24,10 +24,10 @@ module _ (s t : State) (quiet : Quiet s) where
   same_quiet states p c f = quiet p c (sym (ap (λ l. forwards (get_or l p Disabled)) states) ∙ f)
 
   laid_quiet : {σ : Settings} {q : ℕ} {frame : List ℕ} {r : Received} → Lays σ s q frame r t → Quiet t
-  laid_quiet {σ} {q} {frame} {r} e p c f = go (lays r.decided r.no_room p && eqb c (class_of σ.classes r.classified.priority)) refl (e.queues p c)
+  laid_quiet {σ} {q} {frame} {r} e p c f = go (lays_in σ r.decided r.no_room r.classified.1 p c) refl (e.queues p c)
     where
-      go : (b : Bool) → (lays r.decided r.no_room p && eqb c (class_of σ.classes r.classified.priority)) ≡ b
-          → t.queues p c ≡ cond b (s.queues p c ++ (sendable e.picture e.vlan r.classified.priority p ∷ [])) (s.queues p c) → t.queues p c ≡ []
+      go : (b : Bool) → (lays_in σ r.decided r.no_room r.classified.1 p c) ≡ b
+          → t.queues p c ≡ cond b (s.queues p c ++ (sendable e.picture e.vlan r.classified.1 p ∷ [])) (s.queues p c) → t.queues p c ≡ []
       go true is now =
           let goes = (and_parts _ _ (and_parts _ _ is).0).0 in
           absurd (both_ways (forwards (state_of t p)) f (ap (λ l. forwards (get_or l p Disabled)) e.states ∙ (e.due p goes).forwarding))

@@ -1,26 +1,35 @@
 -- Which receipts the frames that stand at a port belong to, and which its deliveries pair with.
-use Rattle.std.proofs.Common.{◌≡◌, ℕ, ◌<◌, true, false, eqb, List, [], ◌∷◌, ◌++◌, length, Some, Ok, ap, ◌∙◌}
+use Rattle.std.proofs.Common.{◌≡◌, ℕ, ◌<◌, true, false, eqb, List, [], ◌∷◌, ◌++◌, length, Some, Ok, refl, ap, ◌∙◌}
+use Rattle.std.specs.List.{slice_get}
 use Rattle.std.proofs.lemmas.List.Elements.{All-head, All-tail}
-use Rattle.frame.specs.Reading.{Picture, parse}
+use Rattle.frame.specs.Reading.{Picture}
 use Rattle.frame.specs.Writing.{frame_of}
 use Rattle.rules.specs.declared.vlans.Vlan.{Vlan}
 use Rattle.rules.specs.Egress.{egress_tag}
-use Rattle.rules.specs.Laws.{Delivery, Pair, Paired, Receipt}
-use Rattle.rules.specs.Settings.{Settings, has, vlan_of}
+use Rattle.rules.specs.Ingress.{read_at}
+use Rattle.rules.specs.Laws.{Pair}
+use Rattle.rules.specs.Steps.{Delivery, Receipt}
+use Rattle.rules.specs.Settings.{Settings, is_member, vlan_of}
 use Rattle.rules.specs.State.{Queued}
 use Rattle.rules.proofs.Order.{Before}
+
+-- the first delivery pairs with the first receipt, the second with the second, and so on
+abbrev pub Paired : Settings → ℕ → List Delivery → List Receipt → Type 0
+Paired σ p [] rs = Unit {0}
+Paired σ p (d ∷ ds) [] = ⊥
+Paired σ p (d ∷ ds) (r ∷ rs) = Pair σ p d r × Paired σ p ds rs
 
 -- a frame that stands is the one that a receipt tells of
 pub record Awaits (σ : Settings) (p : ℕ) (r : Receipt) (x : Queued) : Type 0 where
   pub elsewhere : eqb r.port p ≡ false
-  pub vid : x.vid ≡ r.answer.classified.vid
+  pub vid : x.vid ≡ r.answer.classified.0
   pub vlan : Vlan
   pub created : vlan_of σ.vlans x.vid ≡ Some vlan
-  pub member : has vlan.members p ≡ true
+  pub member : is_member vlan p ≡ true
   pub picture : Picture
-  pub read : parse r.frame ≡ Ok picture
+  pub read : read_at σ r.port r.frame ≡ Ok picture
   pub written :
-      x.bytes ≡ frame_of (record { destination = picture.destination; source = picture.source; tag = egress_tag vlan r.answer.classified.priority p; body = picture.body })
+      x.bytes ≡ frame_of (record picture { tag = egress_tag vlan r.answer.classified.1 p })
 
 pair_of : (σ : Settings) (p : ℕ) (r : Receipt) (x : Queued) (d : Delivery) → Awaits σ p r x → r.at < d.at → d.answer.vid ≡ x.vid → d.bytes ≡ x.bytes → d.answer.length ≡ length d.bytes → Pair σ p d r
 pair_of σ p r x d a earlier vid bytes size =
@@ -56,3 +65,10 @@ pub walk_paired : {σ : Settings} {p : ℕ} {ds : List Delivery} {rs : List Rece
 walk_paired done = tt
 walk_paired (waits a w) = tt
 walk_paired (pairs b w) = (b, walk_paired w)
+
+-- the receipt of the last delivery
+pub last_pair : {σ : Settings} {p : ℕ} (ds : List Delivery) (d : Delivery) (rs : List Receipt) → Paired σ p (ds ++ (d ∷ [])) rs → (r : Receipt) × (slice_get rs (length ds) ≡ Some r) × Pair σ p d r
+last_pair [] d [] h = absurd h
+last_pair [] d (r ∷ rs) h = (r, refl, h.0)
+last_pair (x ∷ ds) d [] h = absurd h
+last_pair (x ∷ ds) d (r ∷ rs) h = last_pair ds d rs h.1

@@ -1,27 +1,27 @@
 -- What each call of a bridge answers and leaves, refusals included. A call's questions are asked in
 -- order, and the first no is the answer; a refused call leaves the state as it was, except that what
 -- a receive has learned by then stays learned.
-use Rattle.std.specs.Prelude.{ℕ, ◌-◌, ◌*◌, Bool, true, false, cond, not, ◌&&◌, List, [], ◌∷◌, map, length, Some, None, Ok, Err, Option, Result, ◌==◌, nat_le, nat_lt, slice_set}
+use Rattle.std.specs.Prelude.{ℕ, ◌-◌, ◌*◌, Bool, cond, not, ◌&&◌, List, [], ◌∷◌, length, Some, None, Ok, Err, Option, Result, ◌==◌, nat_le, nat_lt, slice_set}
 use Rattle.fault.specs.declared.mark.Mark.{Mark}
 use Rattle.fault.specs.declared.refusal.Refusal.{Refusal}
 use Rattle.fault.specs.declared.refusal.Refusal.TheVariants.{NotStarted, PortOutOfRange, FrameMemoryTooSmall, PortNotLearning, PortNotForwarding, ReservedDestination, NoEgressPort, OutputMemoryTooSmall, NoFrameStands, TimeBeforeClock, TimeTooLarge, UnknownEvent, NoTransition}
 use Rattle.frame.specs.Address.{reserved}
-use Rattle.frame.specs.Reading.{Picture, parse}
+use Rattle.frame.specs.Reading.{Picture}
 use Rattle.frame.specs.Writing.{put_at}
 use Rattle.table.specs.Calls.{after_expire, after_flush, answered, flushed}
 use Rattle.rules.specs.declared.answers.Received.{Received}
 use Rattle.rules.specs.declared.answers.Sent.{Sent}
 use Rattle.rules.specs.declared.ports.PortEvent.{PortEvent}
 use Rattle.rules.specs.declared.ports.PortEvent.TheVariants.{Enable, Disable, Choose, Drop, DelayOver}
-use Rattle.rules.specs.Ports.{Ports}
 use Rattle.rules.specs.declared.ports.PortState.{PortState}
 use Rattle.rules.specs.declared.ports.PortState.TheVariants.{Disabled, Blocking, Listening, Learning, Forwarding}
 use Rattle.rules.specs.declared.vlans.Vlan.{Vlan}
-use Rattle.rules.specs.Egress.{class_of, laid, laid_memory, without_room, sendable}
-use Rattle.rules.specs.Ingress.{ingress, placed}
-use Rattle.rules.specs.Relay.{any_in, decided, forwards, learned, learns, mark_of}
-use Rattle.rules.specs.Settings.{Settings, port_of, vlan_of}
-use Rattle.rules.specs.State.{Queued, State, eight, sixteen, standing_at, state_of, with_clock, with_entries, with_queues, with_states}
+use Rattle.rules.specs.Egress.{laid, laid_memory, without_room, sendable}
+use Rattle.rules.specs.Ingress.{classified_at, ingress, read_at}
+use Rattle.rules.specs.Ports.{Ports, has_any, sixteen}
+use Rattle.rules.specs.Relay.{decided, forwards, learned, learns, mark_of}
+use Rattle.rules.specs.Settings.{Settings, vlan_of}
+use Rattle.rules.specs.State.{Queued, State, frame_stands, standing_at, state_of}
 
 -- a call, with its numbers, its frame, and the sizes of the memories handed to it
 pub data Call : Type 0 where
@@ -66,21 +66,19 @@ memory_needed σ = σ.ports * σ.classes * σ.depth * 1518
 -- RECEIVE, from its end to its beginning
 
 -- the decided ports that have room get the frame (14: there is a decided port)
-abbrev pub flood : Settings → State → ℕ → Picture → Vlan → ℕ → Mark → Ports → Outcome
-flood σ s q frame v priority mark set =
-    cond (any_in set.held)
-    (outcome
-    (received
-    (record { classified = record { vid = v.vid; priority = priority }; decided = set; no_room = without_room σ s (class_of σ.classes priority) set; mark = mark }))
-    (laid σ s set (without_room σ s (class_of σ.classes priority) set) (class_of σ.classes priority) (sendable frame v priority)))
-    (refusing (NoEgressPort mark) s)
+abbrev pub flood : Settings → State → Picture → Vlan → ℕ → Mark → Ports → Outcome
+flood σ s frame v priority mark set =
+    asking (has_any set) (NoEgressPort mark) s
+    (let full = without_room σ s priority set in
+    outcome (received (record { classified = (v.vid, priority); decided = set; no_room = full; mark = mark }))
+    (laid σ s set full priority (sendable frame v priority)))
 
 -- after learning: the port forwards (12), the destination is not reserved (13)
 abbrev pub relay : Settings → State → ℕ → Picture → Vlan → ℕ → Mark → Outcome
 relay σ s q frame v priority mark =
     asking (forwards (state_of s q)) (PortNotForwarding mark) s
     (asking (not (reserved frame.destination)) (ReservedDestination mark) s
-    (flood σ s q frame v priority mark (decided σ s q v frame.destination)))
+    (flood σ s frame v priority mark (decided σ s q v frame.destination)))
 
 -- the port learns (11), and learning happens
 abbrev pub learning : Settings → State → ℕ → Picture → Vlan → ℕ → Outcome
@@ -90,7 +88,7 @@ learning σ s q frame v priority =
 
 abbrev pub entering : Settings → State → ℕ → Picture → Result Vlan Refusal → Outcome
 entering σ s q frame (Err r) = refusing r s
-entering σ s q frame (Ok v) = learning σ s q frame v (placed (port_of σ q) frame.tag).priority
+entering σ s q frame (Ok v) = learning σ s q frame v (classified_at σ q frame.tag).1
 
 abbrev pub reading : Settings → State → ℕ → Result Picture Refusal → Outcome
 reading σ s q (Err r) = refusing r s
@@ -100,17 +98,9 @@ abbrev pub receiving : Settings → State → ℕ → List ℕ → ℕ → Outco
 receiving σ s q frame memory =
     asking s.started NotStarted s
     (asking (nat_lt q σ.ports) PortOutOfRange s
-    (asking (nat_le (memory_needed σ) memory) FrameMemoryTooSmall s (reading σ s q (parse frame))))
+    (asking (nat_le (memory_needed σ) memory) FrameMemoryTooSmall s (reading σ s q (read_at σ q frame))))
 
 -- SEND
-
--- which classes of a port hold a frame
-abbrev pub holds_frame : List Queued → Bool
-holds_frame [] = false
-holds_frame (x ∷ xs) = true
-
-abbrev pub standing_classes : State → ℕ → List Bool
-standing_classes s p = map (λ c. holds_frame (s.queues p c)) eight
 
 abbrev pub sent_queues : State → ℕ → ℕ → List Queued → ℕ → ℕ → List Queued
 sent_queues s p c rest q d = cond (q == p && d == c) rest (s.queues q d)
@@ -120,19 +110,23 @@ abbrev pub handing : State → ℕ → ℕ → List Queued → Outcome
 handing s p c [] = refusing NoFrameStands s
 handing s p c (x ∷ xs) =
     outcome (sent (record { length = length x.bytes; vid = x.vid; class = c }) x.bytes)
-    (with_queues s (sent_queues s p c xs) s.slots)
+    (record s { queues = sent_queues s p c xs })
 
--- the selector chose a class, or none (16)
+-- the selector was asked, and chose a class; none is chosen only where no frame stands
 abbrev pub choosing : State → ℕ → Option ℕ → Outcome
 choosing s p None = refusing NoFrameStands s
 choosing s p (Some c) = handing s p c (s.queues p c)
+
+-- a frame stands at the port (16), and only then is the selector asked
+abbrev pub picking : State → ℕ → Option ℕ → Outcome
+picking s p choice = asking (frame_stands s p) NoFrameStands s (choosing s p choice)
 
 abbrev pub sending : Settings → State → ℕ → ℕ → ℕ → Option ℕ → Outcome
 sending σ s p memory output choice =
     asking s.started NotStarted s
     (asking (nat_lt p σ.ports) PortOutOfRange s
     (asking (nat_le (memory_needed σ) memory) FrameMemoryTooSmall s
-    (asking (nat_le 1518 output) OutputMemoryTooSmall s (choosing s p choice))))
+    (asking (nat_le 1518 output) OutputMemoryTooSmall s (picking s p choice))))
 
 -- ADVANCE
 
@@ -145,7 +139,10 @@ advancing σ s t =
     (asking (nat_le s.clock t) TimeBeforeClock s
     (asking (nat_lt t 1099511627776) TimeTooLarge s
     (outcome advanced
-    (with_clock s t (cond (nat_le (ageing_time σ) t) (after_expire (t - ageing_time σ) s.entries) s.entries)))))
+    (record s {
+      clock = t;
+      entries = cond (nat_le (ageing_time σ) t) (after_expire (t - ageing_time σ) s.entries) s.entries;
+    }))))
 
 -- PORT EVENTS
 
@@ -154,32 +151,18 @@ event_of n =
     cond (n == 1) (Some Enable) (cond (n == 2) (Some Disable) (cond (n == 3) (Some Choose)
     (cond (n == 4) (Some Drop) (cond (n == 5) (Some DelayOver) None))))
 
+-- which state follows; every other pair of state and event is refused
 abbrev pub next_state : PortState → PortEvent → Option PortState
 next_state Disabled Enable = Some Blocking
 next_state Disabled Disable = None
-next_state Disabled Choose = None
-next_state Disabled Drop = None
-next_state Disabled DelayOver = None
-next_state Blocking Enable = None
-next_state Blocking Disable = Some Disabled
+next_state state Disable = Some Disabled
 next_state Blocking Choose = Some Listening
-next_state Blocking Drop = None
-next_state Blocking DelayOver = None
-next_state Listening Enable = None
-next_state Listening Disable = Some Disabled
-next_state Listening Choose = None
 next_state Listening Drop = Some Blocking
-next_state Listening DelayOver = Some Learning
-next_state Learning Enable = None
-next_state Learning Disable = Some Disabled
-next_state Learning Choose = None
 next_state Learning Drop = Some Blocking
-next_state Learning DelayOver = Some Forwarding
-next_state Forwarding Enable = None
-next_state Forwarding Disable = Some Disabled
-next_state Forwarding Choose = None
 next_state Forwarding Drop = Some Blocking
-next_state Forwarding DelayOver = None
+next_state Listening DelayOver = Some Learning
+next_state Learning DelayOver = Some Forwarding
+next_state state e = None
 
 -- leaving Forwarding empties the port's queues; their slots stay
 abbrev pub emptied_queues : State → ℕ → ℕ → ℕ → List Queued
@@ -187,9 +170,10 @@ emptied_queues s p q d = cond (q == p) [] (s.queues q d)
 
 abbrev pub moved : State → ℕ → PortState → Outcome
 moved s p new =
+    let states = slice_set s.states p new in
     cond (forwards (state_of s p))
-    (outcome (emptied (standing_at s p)) (with_queues (with_states s (slice_set s.states p new)) (emptied_queues s p) s.slots))
-    (outcome (emptied 0) (with_states s (slice_set s.states p new)))
+    (outcome (emptied (standing_at s p)) (record s { states = states; queues = emptied_queues s p }))
+    (outcome (emptied 0) (record s { states = states }))
 
 abbrev pub moving : State → ℕ → Option PortState → Outcome
 moving s p None = refusing NoTransition s
@@ -206,7 +190,7 @@ eventing σ s p n =
 -- FLUSH, FIND AND STANDING READ
 
 abbrev pub flushing : State → ℕ → Result ℕ Refusal → Outcome
-flushing s f (Ok n) = outcome (removed n) (with_entries s (after_flush s.entries f))
+flushing s f (Ok n) = outcome (removed n) (record s { entries = after_flush s.entries f })
 flushing s f (Err r) = refusing r s
 
 abbrev pub finding : State → Result (Option ℕ) Refusal → Outcome
@@ -228,28 +212,17 @@ perform σ s (standing p) choice =
 
 -- what a receive lays into the frame memory, by its answer
 abbrev pub laid_in : Settings → State → Received → Result Picture Refusal → Option Vlan → List ℕ → List ℕ
-laid_in σ s r (Err e) v m = m
-laid_in σ s r (Ok frame) None m = m
 laid_in σ s r (Ok frame) (Some v) m =
-    laid_memory σ s r.decided r.no_room (class_of σ.classes r.classified.priority) (sendable frame v r.classified.priority) sixteen m
+    let priority = r.classified.1 in
+    laid_memory σ s r.decided r.no_room priority (sendable frame v priority) sixteen m
+laid_in σ s r frame v m = m
 
-abbrev pub received_in : Settings → State → List ℕ → Answer → List ℕ → List ℕ
-received_in σ s frame (received r) m = laid_in σ s r (parse frame) (vlan_of σ.vlans r.classified.vid) m
-received_in σ s frame (sent x b) m = m
-received_in σ s frame advanced m = m
-received_in σ s frame (emptied n) m = m
-received_in σ s frame (removed n) m = m
-received_in σ s frame (found o) m = m
-received_in σ s frame (counted n) m = m
-received_in σ s frame (refused r) m = m
+-- the frame memory after a receive at a port
+abbrev pub received_in : Settings → State → ℕ → List ℕ → Answer → List ℕ → List ℕ
+received_in σ s q frame (received r) m = laid_in σ s r (read_at σ q frame) (vlan_of σ.vlans r.classified.0) m
+received_in σ s q frame a m = m
 
 -- the output memory after a send: its front is the frame
 abbrev pub sent_to : Answer → List ℕ → List ℕ
-sent_to (received r) m = m
-sent_to (sent x b) m = put_at m 0 b
-sent_to advanced m = m
-sent_to (emptied n) m = m
-sent_to (removed n) m = m
-sent_to (found o) m = m
-sent_to (counted n) m = m
-sent_to (refused r) m = m
+sent_to (sent x bytes) m = put_at m 0 bytes
+sent_to a m = m

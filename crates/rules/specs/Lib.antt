@@ -6,5 +6,7 @@ pub mod Relay
 pub mod Egress
 pub mod Calls
 pub mod Runs
+pub mod Steps
 pub mod Laws
+pub mod Ways
 pub mod Setup

@@ -1,33 +1,28 @@
 -- What is learned from a frame, and which ports it goes to.
-use Rattle.std.specs.Prelude.{ℕ, Bool, true, false, cond, not, ◌&&◌, List, [], ◌∷◌, map, Some, None, Option, ◌==◌, nat_lt}
+use Rattle.std.specs.Prelude.{ℕ, Bool, true, false, cond, not, ◌&&◌, List, [], ◌∷◌, Some, None, Option, ◌==◌, nat_lt}
 use Rattle.std.specs.Str.{bytes_eq}
 use Rattle.fault.specs.declared.mark.Mark.{Mark}
 use Rattle.fault.specs.declared.mark.Mark.TheVariants.{Unlearned}
 use Rattle.frame.specs.Address.{group}
 use Rattle.table.specs.Calls.{after_learn, mark_at, port_of as entry_port}
 use Rattle.table.specs.Entries.{count_of, lookup}
-use Rattle.rules.specs.Ports.{Ports}
+use Rattle.rules.specs.Ports.{Ports, ports_where}
 use Rattle.rules.specs.declared.ports.PortState.{PortState}
-use Rattle.rules.specs.declared.ports.PortState.TheVariants.{Disabled, Blocking, Listening, Learning, Forwarding}
+use Rattle.rules.specs.declared.ports.PortState.TheVariants.{Learning, Forwarding}
 use Rattle.rules.specs.declared.vlans.StaticEntry.{StaticEntry}
 use Rattle.rules.specs.declared.vlans.Verdict.{Verdict}
 use Rattle.rules.specs.declared.vlans.Vlan.{Vlan}
-use Rattle.rules.specs.Settings.{Settings, has, is_filter, is_forward, is_of, is_silent, verdict_at, vlan_of}
-use Rattle.rules.specs.State.{State, sixteen, state_of, with_entries}
+use Rattle.rules.specs.Settings.{Settings, is_filter, is_forward, is_member, is_of, is_silent, verdict_at, vlan_of}
+use Rattle.rules.specs.State.{State, state_of}
 
 abbrev pub learns : PortState → Bool
-learns Disabled = false
-learns Blocking = false
-learns Listening = false
 learns Learning = true
 learns Forwarding = true
+learns other = false
 
 abbrev pub forwards : PortState → Bool
-forwards Disabled = false
-forwards Blocking = false
-forwards Listening = false
-forwards Learning = false
 forwards Forwarding = true
+forwards other = false
 
 -- a source is learned if it is individual, and no static entry of its VLAN speaks of it at the port
 abbrev pub learnable : Settings → ℕ → ℕ → List ℕ → Bool
@@ -41,7 +36,7 @@ mark_of σ s p v source =
 abbrev pub learned : Settings → State → ℕ → Vlan → List ℕ → State
 learned σ s p v source =
     cond (learnable σ v.vid p source)
-    (with_entries s (after_learn σ.share s.entries v.fid source p s.clock)) s
+    (record s { entries = after_learn σ.share s.entries v.fid source p s.clock }) s
 
 -- whether a static entry for this address, under any VID of the filtering database, says it of the port
 abbrev pub any_says : (Verdict → Bool) → Settings → List StaticEntry → ℕ → List ℕ → ℕ → Bool
@@ -65,11 +60,7 @@ let_through σ s v a p =
 -- whether a frame that arrived at port q goes to port p
 abbrev pub decides : Settings → State → ℕ → Vlan → List ℕ → ℕ → Bool
 decides σ s q v a p =
-    nat_lt p σ.ports && not (p == q) && forwards (state_of s p) && has v.members p && let_through σ s v a p
+    nat_lt p σ.ports && not (p == q) && forwards (state_of s p) && is_member v p && let_through σ s v a p
 
 abbrev pub decided : Settings → State → ℕ → Vlan → List ℕ → Ports
-decided σ s q v a = record { held = map (decides σ s q v a) sixteen }
-
-abbrev pub any_in : List Bool → Bool
-any_in [] = false
-any_in (b ∷ bs) = cond b true (any_in bs)
+decided σ s q v a = ports_where (decides σ s q v a)

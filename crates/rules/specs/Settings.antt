@@ -2,8 +2,7 @@
 -- Everything here is fixed from the start of the bridge on.
 use Rattle.std.specs.Prelude.{ℕ, Bool, true, false, cond, ◌&&◌, List, [], ◌∷◌, Some, None, Option, ◌==◌, slice_index_or}
 use Rattle.std.specs.Str.{bytes_eq}
-use Rattle.selector.specs.Sets.{holds}
-use Rattle.rules.specs.Ports.{Ports}
+use Rattle.rules.specs.Ports.{has}
 use Rattle.rules.specs.declared.ports.PortSettings.{PortSettings}
 use Rattle.rules.specs.declared.vlans.StaticEntry.{StaticEntry}
 use Rattle.rules.specs.declared.vlans.Verdict.{Verdict}
@@ -23,21 +22,21 @@ pub record Settings : Type 0 where
   pub vlans : List Vlan
   pub statics : List StaticEntry
 
--- whether a port is in a set
-abbrev pub has : Ports → ℕ → Bool
-has set p = holds set.held p
-
 -- a port as it is before anything is set up
-abbrev pub plain_port : PortSettings
-plain_port = record { pvid = 1; admit_all = true; ingress_filtering = false; priority = 0 }
+abbrev pub fresh_port : PortSettings
+fresh_port = record { pvid = 1; admit_all = true; ingress_filtering = false; priority = 0 }
 
-abbrev pub port_of : Settings → ℕ → PortSettings
-port_of σ p = slice_index_or σ.port p plain_port
+abbrev pub port_settings : Settings → ℕ → PortSettings
+port_settings σ p = slice_index_or σ.port p fresh_port
 
 -- the VLAN of a VID, where it is created
 abbrev pub vlan_of : List Vlan → ℕ → Option Vlan
 vlan_of [] vid = None
 vlan_of (v ∷ vs) vid = cond (v.vid == vid) (Some v) (vlan_of vs vid)
+
+-- whether a port is a member of a VLAN
+abbrev pub is_member : Vlan → ℕ → Bool
+is_member v p = has v.members p
 
 -- the static entry for a VID and an address, where there is one
 abbrev pub static_of : List StaticEntry → ℕ → List ℕ → Option StaticEntry
@@ -54,18 +53,15 @@ verdict_at σ vid a p = says (static_of σ.statics vid a) p
 
 abbrev pub is_forward : Verdict → Bool
 is_forward Forward = true
-is_forward Filter = false
-is_forward Silent = false
+is_forward other = false
 
 abbrev pub is_filter : Verdict → Bool
-is_filter Forward = false
 is_filter Filter = true
-is_filter Silent = false
+is_filter other = false
 
 abbrev pub is_silent : Verdict → Bool
-is_silent Forward = false
-is_silent Filter = false
 is_silent Silent = true
+is_silent other = false
 
 -- whether a created VLAN belongs to a filtering database
 abbrev pub is_of : ℕ → Option Vlan → Bool

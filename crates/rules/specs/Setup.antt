@@ -4,9 +4,8 @@ use Rattle.std.specs.Prelude.{ℕ, Bool, true, false, cond, not, ◌&&◌, ◌||
 use Rattle.fault.specs.declared.refusal.Refusal.{Refusal}
 use Rattle.fault.specs.declared.refusal.Refusal.TheVariants.{PortOutOfRange, VlanNotCreated, FidOutOfRange, AlreadyStarted, PortCountOutOfRange, ClassCountOutOfRange, DepthOutOfRange, VidOutOfRange, PriorityOutOfRange, MemberOutOfRange, UntaggedNotMember, AlreadyThere, TooMany, AgeingOutOfRange}
 use Rattle.table.specs.Entries.{is_fid}
-use Rattle.rules.specs.Settings.{Settings, has, plain_port, static_of, vlan_of}
-use Rattle.rules.specs.State.{sixteen}
-use Rattle.rules.specs.Ports.{Ports}
+use Rattle.rules.specs.Ports.{Ports, has, sixteen}
+use Rattle.rules.specs.Settings.{Settings, fresh_port, static_of, vlan_of}
 use Rattle.rules.specs.declared.ports.PortSettings.{PortSettings}
 use Rattle.rules.specs.declared.vlans.StaticEntry.{StaticEntry}
 use Rattle.rules.specs.declared.vlans.Vlan.{Vlan}
@@ -15,14 +14,14 @@ use Rattle.rules.specs.declared.vlans.Vlan.{Vlan}
 abbrev pub ask : Bool → Refusal → Option Refusal → Option Refusal
 ask yes' r later = cond yes' later (Some r)
 
-abbrev pub between : ℕ → ℕ → ℕ → Bool
-between low high n = nat_le low n && nat_le n high
+abbrev pub in_range : ℕ → ℕ → ℕ → Bool
+in_range low high n = nat_le low n && nat_le n high
 
 -- the check before a bridge is made
 abbrev pub make_asked : ℕ → ℕ → ℕ → Option Refusal
 make_asked ports classes depth =
-    ask (between 2 16 ports) PortCountOutOfRange
-    (ask (between 1 8 classes) ClassCountOutOfRange (ask (between 1 64 depth) DepthOutOfRange None))
+    ask (in_range 2 16 ports) PortCountOutOfRange
+    (ask (in_range 1 8 classes) ClassCountOutOfRange (ask (in_range 1 64 depth) DepthOutOfRange None))
 
 -- a bridge as it is made
 abbrev pub just_made : ℕ → ℕ → ℕ → ℕ → Settings
@@ -33,23 +32,9 @@ just_made ports classes depth share =
       depth = depth;
       share = share;
       ageing = 300;
-      port = replicate 16 plain_port;
+      port = replicate 16 fresh_port;
       vlans = [];
       statics = [];
-    }
-
--- the settings with the parts that calls may change
-abbrev pub set_to : Settings → ℕ → List PortSettings → List Vlan → List StaticEntry → Settings
-set_to σ ageing port vlans statics =
-    record {
-      ports = σ.ports;
-      classes = σ.classes;
-      depth = σ.depth;
-      share = σ.share;
-      ageing = ageing;
-      port = port;
-      vlans = vlans;
-      statics = statics;
     }
 
 -- a port's settings
@@ -57,10 +42,10 @@ abbrev pub port_asked : Bool → Settings → ℕ → PortSettings → Option Re
 port_asked started σ p port =
     ask (not started) AlreadyStarted
     (ask (nat_lt p σ.ports) PortOutOfRange
-    (ask (between 1 4094 port.pvid) VidOutOfRange (ask (nat_le port.priority 7) PriorityOutOfRange None)))
+    (ask (in_range 1 4094 port.pvid) VidOutOfRange (ask (nat_le port.priority 7) PriorityOutOfRange None)))
 
 abbrev pub with_port : Settings → ℕ → PortSettings → Settings
-with_port σ p port = set_to σ σ.ageing (set σ.port p port) σ.vlans σ.statics
+with_port σ p settings = record σ { port = set σ.port p settings }
 
 -- whether every port of one set is below a number, or in another set
 abbrev pub all_below : Ports → ℕ → List ℕ → Bool
@@ -83,14 +68,14 @@ no_static (Some e) = false
 abbrev pub vlan_asked : Bool → Settings → Vlan → Option Refusal
 vlan_asked started σ v =
     ask (not started) AlreadyStarted
-    (ask (between 1 4094 v.vid) VidOutOfRange
+    (ask (in_range 1 4094 v.vid) VidOutOfRange
     (ask (is_fid v.fid) FidOutOfRange
     (ask (all_below v.members σ.ports sixteen) MemberOutOfRange
     (ask (all_in v.untagged v.members sixteen) UntaggedNotMember
     (ask (no_vlan (vlan_of σ.vlans v.vid)) AlreadyThere (ask (nat_lt (length σ.vlans) 64) TooMany None))))))
 
 abbrev pub with_vlan : Settings → Vlan → Settings
-with_vlan σ v = set_to σ σ.ageing σ.port (σ.vlans ++ (v ∷ [])) σ.statics
+with_vlan σ v = record σ { vlans = σ.vlans ++ (v ∷ []) }
 
 -- a static entry
 abbrev pub static_asked : Bool → Settings → StaticEntry → Option Refusal
@@ -100,14 +85,14 @@ static_asked started σ e =
     (ask (no_static (static_of σ.statics e.vid e.address)) AlreadyThere (ask (nat_lt (length σ.statics) 64) TooMany None)))
 
 abbrev pub with_static : Settings → StaticEntry → Settings
-with_static σ e = set_to σ σ.ageing σ.port σ.vlans (σ.statics ++ (e ∷ []))
+with_static σ e = record σ { statics = σ.statics ++ (e ∷ []) }
 
 -- the ageing time in seconds
 abbrev pub ageing_asked : Bool → ℕ → Option Refusal
-ageing_asked started seconds = ask (not started) AlreadyStarted (ask (between 10 1000000 seconds) AgeingOutOfRange None)
+ageing_asked started seconds = ask (not started) AlreadyStarted (ask (in_range 10 1000000 seconds) AgeingOutOfRange None)
 
 abbrev pub with_ageing : Settings → ℕ → Settings
-with_ageing σ seconds = set_to σ seconds σ.port σ.vlans σ.statics
+with_ageing σ seconds = record σ { ageing = seconds }
 
 -- start asks nothing else; it leaves the bridge at `at_start`
 abbrev pub start_asked : Bool → Option Refusal

@@ -2,18 +2,11 @@
 use crate::ports::PortSet;
 use fault::mark::Mark;
 
-// How a frame is placed: its VID and its priority.
-#[derive(Clone, Copy, Drop)]
-pub struct Classified {
-    pub vid: u16,
-    pub priority: u8,
-}
-
 // An accepted receive: how the frame is placed, the ports that it goes to, those of them whose queue
 // had no room, and what came of learning.
 #[derive(Clone, Copy, Drop)]
 pub struct Received {
-    pub classified: Classified,
+    pub classified: (u16, u8),
     pub decided: PortSet,
     pub no_room: PortSet,
     pub mark: Mark,
