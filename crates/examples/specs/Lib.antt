@@ -1,2 +1,4 @@
+pub mod Bridges
+pub mod Lines
 pub mod Worked
 pub mod Mixed
