@@ -1,0 +1,4 @@
+pub mod Flags
+pub mod Orders
+pub mod Picks
+pub mod Rising

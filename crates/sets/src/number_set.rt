@@ -1,0 +1,201 @@
+//! Sets of numbers in one word.
+ghost use Rattle.std.specs.Prelude.{◌≡◌, false, true, length, not, replicate, slice_set};
+ghost use Rattle.std.proofs.Common.{rules};
+ghost use Rattle.std.specs.Cmp.{bool_eq_equiv};
+ghost use Rattle.std.specs.Cmp.Rules.{comparing};
+ghost use Rattle.std.specs.Cmp.Lexicographic.{pointwise};
+ghost use Rattle.sets.specs.Sets.{holds, any_in, same_flag, union, intersection, difference, upward, downward, round, first_held, members};
+ghost use Rattle.sets.specs.Words.{width};
+
+use crate::members::Members;
+use std::marker::Model;
+
+/// How many ports a bridge may have, numbered from 0.
+pub const PORTS: usize = 16;
+
+/// How many traffic classes a port may have, numbered from 0.
+pub const CLASSES: usize = 8;
+
+/// A set of ports, 0 to 15.
+pub type PortSet = NumberSet<PORTS>;
+
+/// A set of traffic classes, 0 to 7.
+pub type ClassSet = NumberSet<CLASSES>;
+
+/// A set of numbers below `N`, which is at most 16: no number from 16 on is ever in a set.
+#[derive(Debug, Clone, Copy, Drop)]
+pub struct NumberSet<const N: usize> {
+    word: u16,
+}
+
+impl<const N: usize> Model for NumberSet<N> {
+    ghost use Rattle.std.specs.Prelude.{◌<◌, ◌^◌, List, Bool};
+    ghost use Rattle.sets.specs.Words.{flags_of, word_of, width};
+    ghost use Rattle.sets.specs.Inverse.{word_of-flags_of};
+
+    ghost Value = { List Bool };
+
+    ghost view = { λ s. flags_of (width N) s.word };
+
+    ghost invariant = { λ s. s.word < 2 ^ width N };
+
+    ghost inverse = { λ held. record { word = word_of held } };
+
+    ghost inverse_ok = { λ s h i. record { word = word_of-flags_of (width N) s.word h i } };
+}
+
+impl<const N: usize> NumberSet<N> {
+    /// The set that has no number in it.
+    #[inline]
+    #[tactic(auto, using(crate::proofs::Flags::no_flags))]
+    pub fn empty() -> Self
+        ensures { result ≡ replicate (width N) false }
+    {
+        NumberSet { word: 0 }
+    }
+
+    /// Whether the number is in the set.
+    #[inline]
+    #[tactic(auto, using(crate::proofs::Flags::shifted_bit, crate::proofs::Flags::past_word))]
+    pub fn contains(&self, number: u8) -> bool
+        ensures { result ≡ holds self.now number }
+    {
+        number < 16 && self.word >> number & 1 == 1
+    }
+
+    /// Whether no number is in the set.
+    #[inline]
+    #[tactic(auto, using(crate::proofs::Flags::none_in))]
+    pub fn is_empty(&self) -> bool
+        ensures { result ≡ not (any_in self.now) }
+    {
+        self.word == 0
+    }
+
+    /// Adds a number. One of `N` or more adds nothing.
+    #[inline]
+    #[tactic(auto, using(crate::proofs::Flags::set_flag, crate::proofs::Flags::set_below, crate::proofs::Flags::set_past_flags))]
+    pub fn insert(&mut self, number: u8)
+        ensures { self.new ≡ slice_set self.old number true }
+    {
+        if number < 16 && usize::from(number) < N {
+            self.word |= 1 << number;
+        }
+    }
+
+    /// Takes a number out.
+    #[inline]
+    #[tactic(auto, using(crate::proofs::Flags::clear_flag, crate::proofs::Flags::set_past_flags))]
+    pub fn remove(&mut self, number: u8)
+        ensures { self.new ≡ slice_set self.old number false }
+    {
+        if number < 16 {
+            self.word &= !(1 << number);
+        }
+    }
+
+    /// The numbers that are in this set, in the other, or in both.
+    #[inline]
+    #[tactic(auto, using(crate::proofs::Flags::union_flags, crate::proofs::Flags::union_below))]
+    pub fn union(&self, other: &Self) -> Self
+        ensures { result ≡ union self.now other.now }
+    {
+        NumberSet {
+            word: self.word | other.word,
+        }
+    }
+
+    /// The numbers that are in both sets.
+    #[inline]
+    #[tactic(auto, using(crate::proofs::Flags::intersection_flags))]
+    pub fn intersection(&self, other: &Self) -> Self
+        ensures { result ≡ intersection self.now other.now }
+    {
+        NumberSet {
+            word: self.word & other.word,
+        }
+    }
+
+    /// The numbers of this set that are not in the other.
+    #[inline]
+    #[tactic(auto, using(crate::proofs::Flags::difference_flags))]
+    pub fn difference(&self, other: &Self) -> Self
+        ensures { result ≡ difference self.now other.now }
+    {
+        NumberSet {
+            word: self.word & !other.word,
+        }
+    }
+
+    /// The lowest number in the set.
+    #[inline]
+    #[tactic(auto, using(crate::proofs::Picks::lowest_none, crate::proofs::Picks::lowest_bit))]
+    pub fn lowest(&self) -> Option<u8>
+        ensures { result ≡ first_held (upward (width N)) self.now }
+    {
+        if self.word == 0 {
+            return None;
+        }
+        Some(self.word.trailing_zeros() as u8)
+    }
+
+    /// The highest number in the set.
+    #[inline]
+    #[tactic(auto, using(crate::proofs::Picks::highest_none, crate::proofs::Picks::highest_bit))]
+    pub fn highest(&self) -> Option<u8>
+        ensures { result ≡ first_held (downward (width N)) self.now }
+    {
+        if self.word == 0 {
+            return None;
+        }
+        Some(self.word.ilog2() as u8)
+    }
+
+    /// The next number of the set upward from `last`, going on from the highest to 0. `last` itself
+    /// comes last. A `last` of `N` or more counts as what it leaves when `N` is taken off as often as can be.
+    #[inline]
+    #[tactic(auto, using(crate::proofs::Picks::next_none, crate::proofs::Picks::next_bit, crate::proofs::Picks::next_bit_round))]
+    pub fn next_after(&self, last: u8) -> Option<u8>
+        ensures { result ≡ first_held (round (width N) last) self.now }
+    {
+        if self.word == 0 {
+            return None;
+        }
+        let from = last % (N.min(16) as u8);
+        let above = self.word >> from >> 1;
+        let next = if above == 0 {
+            self.word.trailing_zeros() as u8
+        } else {
+            from + 1 + above.trailing_zeros() as u8
+        };
+        Some(next)
+    }
+
+    /// The numbers in the set, in rising order.
+    #[inline]
+    #[tactic(auto, using(crate::proofs::Flags::count_of_flags))]
+    pub fn iter(&self) -> Members<N>
+        ensures numbers { result ≡ members self.now }
+        ensures size { length self.now ≡ width N }
+    {
+        Members {
+            left: NumberSet { word: self.word },
+        }
+    }
+}
+
+impl<const N: usize> PartialEq for NumberSet<N> {
+    ghost eq = { pointwise same_flag };
+
+    ghost laws = { Prim.search (comparing, rules) };
+
+    #[inline]
+    #[tactic(auto, using(crate::proofs::Flags::same_flags))]
+    fn eq(&self, other: &Self) -> bool {
+        self.word == other.word
+    }
+}
+
+impl<const N: usize> Eq for NumberSet<N> {
+    ghost laws = { Prim.search (comparing, rules) };
+}

@@ -1,0 +1,2 @@
+//! Tests of the sets.
+#![tactic(auto)]
