@@ -8,7 +8,8 @@ use Rattle.std.proofs.lemmas.List.FromFn.{get_or-map-range_with_len, length-map-
 use Rattle.std.proofs.lemmas.Bool.Decides.{nat_tests}
 use Rattle.rules.specs.Egress.{class_of, class_table}
 use Rattle.rules.proofs.Classes.{passes_at}
-use Rattle.rules.specs.Ports.{any_in, eight, sixteen}
+use Rattle.sets.specs.Sets.{any_in}
+use Rattle.rules.specs.Ports.{eight, sixteen}
 use Rattle.rules.specs.State.{Queued, standing_in}
 
 pub eqb_flip : (a b : ℕ) → eqb a b ≡ eqb b a

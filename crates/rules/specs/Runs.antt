@@ -6,7 +6,7 @@ use Rattle.rules.specs.Calls.{Answer, Call, perform, send}
 use Rattle.rules.specs.Settings.{Settings}
 use Rattle.rules.specs.State.{State, at_start, standing_classes}
 use Rattle.selector.specs.Classes.{NoneHeld}
-use Rattle.selector.specs.Sets.{holds}
+use Rattle.sets.specs.Sets.{holds}
 
 pub record Step : Type 0 where
   pub call : Call

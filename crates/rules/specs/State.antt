@@ -1,7 +1,8 @@
 -- What changes while a bridge runs: the clock, the ports' states, the set of learned entries, and for
 -- each port and traffic class the frames that stand, oldest first, and where the next will lie.
 use Rattle.std.specs.Prelude.{ℕ, ◌+◌, Bool, true, false, List, [], ◌∷◌, length, map, replicate, slice_index_or}
-use Rattle.rules.specs.Ports.{any_in, eight}
+use Rattle.sets.specs.Sets.{any_in}
+use Rattle.rules.specs.Ports.{eight}
 use Rattle.rules.specs.declared.ports.PortState.{PortState}
 use Rattle.rules.specs.declared.ports.PortState.TheVariants.{Disabled}
 use Rattle.table.specs.declared.entry.Entry.{Entry}

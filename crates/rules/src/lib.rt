@@ -1,4 +1,4 @@
-// The bridge's rules: the types that rules and code share, and the laws that are proved of the rules.
+//! The bridge's rules: the types that rules and code share, and the laws that are proved of the rules.
 #![tactic(auto)]
 
 pub mod answers;
