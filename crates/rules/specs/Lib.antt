@@ -10,3 +10,4 @@ pub mod Steps
 pub mod Laws
 pub mod Ways
 pub mod Setup
+pub mod Shapes

@@ -4,4 +4,5 @@
 pub mod answers;
 pub mod laws;
 pub mod ports;
+pub mod shape;
 pub mod vlans;
