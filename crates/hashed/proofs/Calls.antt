@@ -9,7 +9,7 @@ use Rattle.std.proofs.lemmas.Bool.Decides.{nat_tests}
 use Rattle.fault.specs.declared.mark.Mark.{Mark}
 use Rattle.table.specs.declared.entry.Entry.{Entry}
 use Rattle.table.specs.Entries.{is_fid, fids_in_range, not_of_fid, lookup, count_of}
-use Rattle.table.specs.Calls.{port_of, heard_after}
+use Rattle.table.specs.Calls.{entry_port, heard_after}
 use Rattle.table.specs.Records.{distinct, held_of}
 use Rattle.table.proofs.Records.{kept_both}
 use Rattle.table.proofs.Rising.{look_rising}
@@ -64,11 +64,11 @@ put_laid {s} {g} r ys d e n k = subst (λ l. Laid s.share l (set s.bounds g d)) 
 
 -- find
 
-pub found : {s : Hashed} {g a b : ℕ} → Cuts s g a b → (f : ℕ) (y : List ℕ) → g + 1 ≡ f → port_of (lookup (held_of (between a b s.records.now)) f y) ≡ port_of (lookup (set_of s) f y)
+pub found : {s : Hashed} {g a b : ℕ} → Cuts s g a b → (f : ℕ) (y : List ℕ) → g + 1 ≡ f → entry_port (lookup (held_of (between a b s.records.now)) f y) ≡ entry_port (lookup (set_of s) f y)
 found {s} {g} r f y fe =
     let xs = s.records.now in
-    ap (λ l. port_of (lookup (held_of l) f y)) (part_is r)
-    ∙ ap port_of (sym (look_rising (held_of xs) f y ∙ ap (λ l. lookup l f y) (held_cut s.share g xs) ∙ look_mid f y (before s.share g xs) _ (after s.share g xs) (clear_before s f g r.below fe) (clear_after s f g r.below fe)))
+    ap (λ l. entry_port (lookup (held_of l) f y)) (part_is r)
+    ∙ ap entry_port (sym (look_rising (held_of xs) f y ∙ ap (λ l. lookup l f y) (held_cut s.share g xs) ∙ look_mid f y (before s.share g xs) _ (after s.share g xs) (clear_before s f g r.below fe) (clear_after s f g r.below fe)))
 
 -- learn
 

@@ -10,9 +10,9 @@ use Rattle.fault.specs.declared.mark.Mark.TheVariants.{New, Full}
 use Rattle.table.specs.declared.entry.Entry.{Entry}
 use Rattle.table.specs.Entries.{is_fid, has_key, lookup, count_of}
 use Rattle.table.specs.Rising.{rising}
-use Rattle.table.specs.Calls.{marked, after_learn}
+use Rattle.table.specs.Calls.{learned_mark, after_learn}
 use Rattle.table.specs.Records.{distinct, rewritten, Orderly}
-use Rattle.table.proofs.Records.{count_flush, holds_front, orderly_written, orderly_in}
+use Rattle.table.proofs.Records.{count_flush, has_pair_front, orderly_written, orderly_in}
 use Rattle.table.proofs.Implement.{mark_is, over_is, new_is, full_is}
 use Rattle.hashed.specs.Stretch.{Learned}
 use Rattle.hashed.specs.Stretch.Learned.{over, added, full}
@@ -57,7 +57,7 @@ distinct_back (e ∷ l) m d = grind (arith, nat_tests, distinct_back l m)
 
 distinct_front : (l m : List Entry) → distinct (l ++ m) ≡ true → distinct l ≡ true
 distinct_front [] m d = refl
-distinct_front (e ∷ l) m d = grind (arith, nat_tests, distinct_front l m, holds_front l m e.key.fid e.key.address)
+distinct_front (e ∷ l) m d = grind (arith, nat_tests, distinct_front l m, has_pair_front l m e.key.fid e.key.address)
 
 pub distinct_mid : (l m n : List Entry) → distinct (l ++ (m ++ n)) ≡ true → distinct m ≡ true
 distinct_mid l m n d = distinct_front m n (distinct_back l (m ++ n) d)
@@ -74,7 +74,7 @@ written_before f a p t (e ∷ m) n old h = grind (arith, nat_tests, written_befo
 
 -- what learning does to the middle, it does to the whole
 pub record Whole (share : ℕ) (l m : List Entry) (e : Entry) (r : Mark) : Type 0 where
-  pub mark : Ok r ≡ marked share (rising l) e.key.fid e.key.address e.port
+  pub mark : Ok r ≡ learned_mark share (rising l) e.key.fid e.key.address e.port
   pub later : rising m ≡ after_learn share (rising l) e.key.fid e.key.address e.port e.heard
   pub orderly : Orderly share m
 

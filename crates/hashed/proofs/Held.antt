@@ -4,7 +4,7 @@ use Rattle.std.proofs.lemmas.Bool.Decides.{nat_tests}
 use Rattle.table.specs.declared.entry.Entry.{Entry}
 use Rattle.table.specs.Entries.{new_entry, free_entry, is_free, has_key, lookup, count_of}
 use Rattle.table.specs.Calls.{heard_after}
-use Rattle.table.specs.Records.{held_of, holds, distinct, rewritten}
+use Rattle.table.specs.Records.{held_of, has_pair, distinct, rewritten}
 use Rattle.table.proofs.Records.{key_is}
 use Rattle.slots.specs.Sweep.{heard_later}
 
@@ -16,13 +16,13 @@ pub none_held : (xs : List Entry) (f : ℕ) (a : List ℕ) → ((i : ℕ) → i 
 none_held [] f a h = refl
 none_held (e ∷ es) f a h = grind (arith, nat_tests, none_held es f a (λ i lt. h (suc i) (omega arith)), h 0 (omega arith))
 
-holds_here : (xs : List Entry) (i f : ℕ) (a : List ℕ) → 1 ≤ f → i < length xs → has_key f a (get_or xs i free_entry) ≡ true → holds (held_of xs) f a ≡ true
+holds_here : (xs : List Entry) (i f : ℕ) (a : List ℕ) → 1 ≤ f → i < length xs → has_key f a (get_or xs i free_entry) ≡ true → has_pair (held_of xs) f a ≡ true
 holds_here [] i f a lo lt k = absurd (omega arith)
 holds_here (e ∷ es) zero f a lo lt k = grind (arith, nat_tests)
 holds_here (e ∷ es) (suc i) f a lo lt k = grind (arith, nat_tests, holds_here es i f a lo (omega arith) k)
 
 -- what comes before the entry of a pair is not of that pair
-others : (e : Entry) (l : List Entry) (f : ℕ) (a : List ℕ) → distinct (e ∷ l) ≡ true → holds l f a ≡ true → has_key f a e ≡ false
+others : (e : Entry) (l : List Entry) (f : ℕ) (a : List ℕ) → distinct (e ∷ l) ≡ true → has_pair l f a ≡ true → has_key f a e ≡ false
 others e l f a d h = grind (arith, nat_tests, key_is f a e)
 
 pub hit_look : (xs : List Entry) (i f : ℕ) (a : List ℕ) → distinct (held_of xs) ≡ true → 1 ≤ f → i < length xs → has_key f a (get_or xs i free_entry) ≡ true → lookup (held_of xs) f a ≡ Some (get_or xs i free_entry)

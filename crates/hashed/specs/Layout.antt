@@ -1,7 +1,6 @@
 -- Where the stretches of a hashed table lie, and what the table keeps true of itself. There are 16
 -- stretches, one after the other, each with two records for each entry of the share.
-use Rattle.std.specs.Prelude.{ℕ, ◌+◌, ◌*◌, ◌<◌, Bool, true, cond, List, ◌==◌, slice_index_or}
-use Rattle.std.specs.List.{between}
+use Rattle.std.specs.Prelude.{ℕ, ◌+◌, ◌*◌, ◌<◌, Bool, true, cond, List, ◌==◌, slice_index_or, slice_range}
 use Rattle.table.specs.declared.entry.Entry.{Entry}
 use Rattle.table.specs.Calls.{heard_after}
 use Rattle.slots.specs.declared.measure.Bounds.{Bounds}
@@ -13,7 +12,7 @@ abbrev pub start_of : ℕ → ℕ → ℕ
 start_of share g = g * (2 * share)
 
 abbrev pub stretch_of : ℕ → ℕ → List Entry → List Entry
-stretch_of share g xs = between (start_of share g) (start_of share g + 2 * share) xs
+stretch_of share g xs = slice_range xs (start_of share g) (start_of share g + 2 * share)
 
 -- Each stretch is as its bounds say.
 abbrev pub Laid : ℕ → List Entry → List Bounds → Type 0

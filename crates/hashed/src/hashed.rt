@@ -6,7 +6,7 @@ ghost use Rattle.table.specs.Records.{Orderly, held_of};
 ghost use Rattle.hashed.specs.Layout.{Laid, spared, start_of};
 
 use crate::row::Row;
-use crate::stretch::{learn, port_of};
+use crate::stretch::{find, learn};
 use fault::mark::Mark;
 use fault::refusal::Refusal;
 use slots::measure::Bounds;
@@ -35,7 +35,7 @@ pub struct Hashed<'a> {
 impl<'a> Hashed<'a> {
     ghost use Rattle.std.specs.Prelude.{[], Ok};
     ghost use Rattle.table.specs.Entries.{lookup};
-    ghost use Rattle.table.specs.Calls.{after_flush, after_learn, flushed, marked, port_of};
+    ghost use Rattle.table.specs.Calls.{after_flush, after_learn, entry_port, flushed, learned_mark};
     ghost use Rattle.hashed.specs.Sets.{set_of};
 
     // An empty table in 32 records for each entry of the share. Records beyond these are left alone.
@@ -67,17 +67,17 @@ impl<'a> Hashed<'a> {
     #[inline(always)]
     fn port_at(&self, row: Row, key: Key) -> Option<u8>
         requires { row.index + 1 ≡ key.fid }
-        ensures { result ≡ port_of (lookup (set_of self.now) key.fid key.address) }
+        ensures { result ≡ entry_port (lookup (set_of self.now) key.fid key.address) }
     {
         let stretch = self.stretch(row);
-        port_of(&self.records[stretch], self.bounds[row.index], key)
+        find(&self.records[stretch], self.bounds[row.index], key)
     }
 
     // Learns an entry in the stretch of its database.
     #[inline(always)]
     fn learn_at(&mut self, row: Row, entry: Entry) -> Mark
         requires { row.index + 1 ≡ entry.key.fid }
-        ensures mark { Ok result ≡ marked self.old.share (set_of self.old) entry.key.fid entry.key.address entry.port }
+        ensures mark { Ok result ≡ learned_mark self.old.share (set_of self.old) entry.key.fid entry.key.address entry.port }
         ensures later { set_of self.new ≡ after_learn self.old.share (set_of self.old) entry.key.fid entry.key.address entry.port entry.heard }
         ensures share { self.new.share ≡ self.old.share }
     {

@@ -1,10 +1,10 @@
-// The calls on the records of one filtering database. Records and bounds are lent side by side: `port_of`
+// The calls on the records of one filtering database. Records and bounds are lent side by side: `find`
 // is lent them to read and `learn` to write, so a struct of both would have to be declared twice. Both are
 // always inlined (`slots::probe` says why).
 ghost use Rattle.std.specs.Prelude.{◌≡◌, ◌*◌, true, length, nat_lt};
 ghost use Rattle.table.specs.Entries.{lookup};
 ghost use Rattle.table.specs.Records.{distinct, held_of};
-ghost use Rattle.table.specs.Calls.{port_of};
+ghost use Rattle.table.specs.Calls.{entry_port};
 ghost use Rattle.hashed.specs.Stretch.{Kept, Learned};
 
 use fault::mark::Mark;
@@ -14,10 +14,10 @@ use table::entry::{Entry, Key};
 
 // The port of an address of the database.
 #[inline(always)]
-pub fn port_of(records: &[Entry], bounds: Bounds, key: Key) -> Option<u8>
+pub fn find(records: &[Entry], bounds: Bounds, key: Key) -> Option<u8>
     requires kept { Kept key.fid records.now bounds }
     requires apart { distinct (held_of records.now) ≡ true }
-    ensures { result ≡ port_of (lookup (held_of records.now) key.fid key.address) }
+    ensures { result ≡ entry_port (lookup (held_of records.now) key.fid key.address) }
 {
     place(records, bounds.reach, key).map(|spot| records[spot.at].port)
 }

@@ -10,12 +10,12 @@ use Rattle.fault.specs.declared.mark.Mark.{Mark}
 use Rattle.fault.specs.declared.mark.Mark.TheVariants.{New, Known, Moved, Full, Unlearned}
 use Rattle.table.specs.declared.entry.Entry.{Entry}
 use Rattle.table.specs.Entries.{new_entry}
-use Rattle.table.specs.Calls.{answered, marked, after_learn, expired, after_expire, after_flush}
+use Rattle.table.specs.Calls.{answered, learned_mark, after_learn, expired, after_expire, after_flush}
 use Rattle.table.proofs.Records.{key_is, key_sym}
 use Rattle.table.proofs.Views.{view_flush, view_answer}
 use Rattle.table.proofs.After.{answer_other, answer_known, after_full, answer_expired, expired_none}
 use Rattle.recent.specs.declared.remembered.Remembered.{Remembered}
-use Rattle.recent.specs.Remembered.{alters, is_of, in_fid, has_port, or_else, recalled, left}
+use Rattle.recent.specs.Remembered.{alters, is_for, in_fid, has_port, or_else, recalled, left}
 use Rattle.recent.specs.Right.{RightAt, AllRight, Right, IsRight}
 
 abbrev ok : Option ℕ → Result (Option ℕ) Refusal
@@ -25,9 +25,9 @@ ok x = Ok x
 all_recalled : (l : List Entry) (ms : List (Option Remembered)) (f : ℕ) (a : List ℕ) (p : Option ℕ) → AllRight l ms → Some p ≡ recalled ms f a → Ok p ≡ answered l f a
 all_recalled l [] f a p r h = absurd (none-some p (sym h))
 all_recalled l (None ∷ ms) f a p r h = all_recalled l ms f a p (λ i. r (suc i)) h
-all_recalled l (Some m ∷ ms) f a p r h = go (λ k. all_recalled l ms f a p (λ i. r (suc i)) k) (is_of f a m) refl h
+all_recalled l (Some m ∷ ms) f a p r h = go (λ k. all_recalled l ms f a p (λ i. r (suc i)) k) (is_for f a m) refl h
   where
-    go : (Some p ≡ recalled ms f a → Ok p ≡ answered l f a) → (b : Bool) → is_of f a m ≡ b → Some p ≡ or_else (cond b (Some m.port) None) (recalled ms f a) → Ok p ≡ answered l f a
+    go : (Some p ≡ recalled ms f a → Ok p ≡ answered l f a) → (b : Bool) → is_for f a m ≡ b → Some p ≡ or_else (cond b (Some m.port) None) (recalled ms f a) → Ok p ≡ answered l f a
     go ih true q k =
         let s = key_is f a (new_entry m.key.fid m.key.address 0 0) q in
         ap ok (same_Some p m.port k) ∙ sym (r 0) ∙ ap (λ x. answered l x m.key.address) s.0 ∙ ap (λ x. answered l f x) s.1
@@ -70,8 +70,8 @@ right_expire l limit ms r = right_map l (after_expire limit l) has_port ms (λ m
         answer_expired limit l m.key.fid m.key.address (h ∙ sym w) ∙ w
     go m (Some p) e q h = absurd (true≢false (ap is_some (sym e) ∙ q))
 
-right_learn : (share : ℕ) (l : List Entry) (f : ℕ) (a : List ℕ) (p t : ℕ) (ms : List (Option Remembered)) → AllRight l ms → AllRight (after_learn share l f a p t) (map (left (is_of f a)) ms)
-right_learn share l f a p t ms r = right_map l (after_learn share l f a p t) (is_of f a) ms (λ m q h. answer_other share l f a p t m.key.fid m.key.address (key_sym (new_entry m.key.fid m.key.address 0 0) (new_entry f a p t) ∙ q) ∙ h) r
+right_learn : (share : ℕ) (l : List Entry) (f : ℕ) (a : List ℕ) (p t : ℕ) (ms : List (Option Remembered)) → AllRight l ms → AllRight (after_learn share l f a p t) (map (left (is_for f a)) ms)
+right_learn share l f a p t ms r = right_map l (after_learn share l f a p t) (is_for f a) ms (λ m q h. answer_other share l f a p t m.key.fid m.key.address (key_sym (new_entry m.key.fid m.key.address 0 0) (new_entry f a p t) ∙ q) ∙ h) r
 
 -- where each answer is as it was
 same_right : (l k : List Entry) (ms : List (Option Remembered)) → ((g : ℕ) (b : List ℕ) → answered k g b ≡ answered l g b) → AllRight l ms → AllRight k ms
@@ -81,7 +81,7 @@ same_right l k ms same r i = one (get_or ms i None) (r i)
     one None h = tt
     one (Some m) h = same m.key.fid m.key.address ∙ h
 
-right_unaltered : (m : Mark) (l k : List Entry) (ms : List (Option Remembered)) (share f : ℕ) (a : List ℕ) (p t : ℕ) → alters m ≡ false → k ≡ after_learn share l f a p t → Ok m ≡ marked share l f a p → AllRight l ms → AllRight k ms
+right_unaltered : (m : Mark) (l k : List Entry) (ms : List (Option Remembered)) (share f : ℕ) (a : List ℕ) (p t : ℕ) → alters m ≡ false → k ≡ after_learn share l f a p t → Ok m ≡ learned_mark share l f a p → AllRight l ms → AllRight k ms
 right_unaltered New l k ms share f a p t n e h r = absurd (true≢false n)
 right_unaltered Known l k ms share f a p t n e h r = same_right l k ms (λ g b. ap (λ z. answered z g b) e ∙ answer_known share l f a p t g b h) r
 right_unaltered Moved l k ms share f a p t n e h r = absurd (true≢false n)
@@ -111,22 +111,22 @@ recalled_right l ms f a None h r = tt
 recalled_right l ms f a (Some p) h r = all_recalled l ms f a p (opened l ms r) h
 
 -- the chain that looks for an answer
-pub recalled_find : (ms : List (Option Remembered)) (f : ℕ) (a : List ℕ) → option_map (λ m. m.port) (find (is_of f a) (flat_map option_to_list ms)) ≡ recalled ms f a
+pub recalled_find : (ms : List (Option Remembered)) (f : ℕ) (a : List ℕ) → option_map (λ m. m.port) (find (is_for f a) (flat_map option_to_list ms)) ≡ recalled ms f a
 recalled_find [] f a = refl
 recalled_find (None ∷ ms) f a = recalled_find ms f a
-recalled_find (Some m ∷ ms) f a = go (recalled_find ms f a) (is_of f a m)
+recalled_find (Some m ∷ ms) f a = go (recalled_find ms f a) (is_for f a m)
   where
-    go : option_map (λ m. m.port) (find (is_of f a) (flat_map option_to_list ms)) ≡ recalled ms f a → (b : Bool) → option_map (λ m. m.port) (cond b (Some m) (find (is_of f a) (flat_map option_to_list ms))) ≡ or_else (cond b (Some m.port) None) (recalled ms f a)
+    go : option_map (λ m. m.port) (find (is_for f a) (flat_map option_to_list ms)) ≡ recalled ms f a → (b : Bool) → option_map (λ m. m.port) (cond b (Some m) (find (is_for f a) (flat_map option_to_list ms))) ≡ or_else (cond b (Some m.port) None) (recalled ms f a)
     go ih true = refl
     go ih false = ih
 
 pub remembers : (l k : List Entry) (ms : List (Option Remembered)) (n : ℕ) (m : Remembered) → k ≡ l → Right l ms → Ok m.port ≡ answered l m.key.fid m.key.address → Right k (set ms n (Some m))
 remembers l k ms n m e r h = shut l k _ _ e refl (all_set l ms n m (opened l ms r) (sym h))
 
-pub unaltered : (m : Mark) (l k : List Entry) (ms : List (Option Remembered)) (share f : ℕ) (a : List ℕ) (p t : ℕ) → alters m ≡ false → k ≡ after_learn share l f a p t → Ok m ≡ marked share l f a p → Right l ms → Right k ms
+pub unaltered : (m : Mark) (l k : List Entry) (ms : List (Option Remembered)) (share f : ℕ) (a : List ℕ) (p t : ℕ) → alters m ≡ false → k ≡ after_learn share l f a p t → Ok m ≡ learned_mark share l f a p → Right l ms → Right k ms
 unaltered m l k ms share f a p t n e h r = shut k k ms ms refl refl (right_unaltered m l k ms share f a p t n e h (opened l ms r))
 
-pub forgets_learned : (l k : List Entry) (ms ns : List (Option Remembered)) (share f : ℕ) (a : List ℕ) (p t : ℕ) → ns ≡ map (left (is_of f a)) ms → k ≡ after_learn share l f a p t → Right l ms → Right k ns
+pub forgets_learned : (l k : List Entry) (ms ns : List (Option Remembered)) (share f : ℕ) (a : List ℕ) (p t : ℕ) → ns ≡ map (left (is_for f a)) ms → k ≡ after_learn share l f a p t → Right l ms → Right k ns
 forgets_learned l k ms ns share f a p t e h r = shut _ k _ ns h e (right_learn share l f a p t ms (opened l ms r))
 
 pub forgets_flushed : (l k : List Entry) (ms ns : List (Option Remembered)) (f : ℕ) → ns ≡ map (left (in_fid f)) ms → k ≡ after_flush l f → Right l ms → Right k ns

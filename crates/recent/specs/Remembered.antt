@@ -8,13 +8,13 @@ use Rattle.fault.specs.declared.mark.Mark.TheVariants.{New, Known, Moved, Full, 
 use Rattle.recent.specs.declared.remembered.Remembered.{Remembered}
 
 -- The answer is for this pair.
-abbrev pub is_of : ℕ → List ℕ → Remembered → Bool
-is_of f a m = m.key.fid == f && bytes_eq m.key.address a
+abbrev pub is_for : ℕ → List ℕ → Remembered → Bool
+is_for f a m = m.key.fid == f && bytes_eq m.key.address a
 
 -- What a slot says of a pair.
 abbrev pub said_by : Option Remembered → ℕ → List ℕ → Option (Option ℕ)
 said_by None f a = None
-said_by (Some m) f a = cond (is_of f a m) (Some m.port) None
+said_by (Some m) f a = cond (is_for f a m) (Some m.port) None
 
 abbrev pub or_else : Option (Option ℕ) → Option (Option ℕ) → Option (Option ℕ)
 or_else None y = y
@@ -25,7 +25,7 @@ abbrev pub recalled : List (Option Remembered) → ℕ → List ℕ → Option (
 recalled [] f a = None
 recalled (s ∷ ss) f a = or_else (said_by s f a) (recalled ss f a)
 
--- The answers that a change touches: those for a pair that was learned (is_of), those of a database that was
+-- The answers that a change touches: those for a pair that was learned (is_for), those of a database that was
 -- flushed, and those with a port where entries expired. What expires takes ports away and brings none.
 abbrev pub in_fid : ℕ → Remembered → Bool
 in_fid f m = m.key.fid == f
@@ -34,8 +34,8 @@ abbrev pub has_port : Remembered → Bool
 has_port m = is_some m.port
 
 -- A closure answers what a test does.
-abbrev pub Computes : {F : Type 0} → Shared F (Remembered × Unit {0}) Bool → F → (Remembered → Bool) → Type 0
-Computes g f test = (m : Remembered) (b : Bool) → g.post f (m, tt) b → b ≡ test m
+abbrev pub Touches : {F : Type 0} → Shared F (Remembered × Unit {0}) Bool → F → (Remembered → Bool) → Type 0
+Touches g f test = (m : Remembered) (b : Bool) → g.post f (m, tt) b → b ≡ test m
 
 -- What is left of a slot where the answers that are touched are forgotten.
 abbrev pub left : (Remembered → Bool) → Option Remembered → Option Remembered

@@ -2,9 +2,9 @@
 // are right stay so.
 ghost use Rattle.std.specs.Prelude.{◌≡◌, ℕ, Bool, false, List, map, Ok, Option};
 ghost use Rattle.table.specs.declared.entry.Entry.{Entry};
-ghost use Rattle.table.specs.Calls.{after_expire, after_flush, after_learn, marked};
+ghost use Rattle.table.specs.Calls.{after_expire, after_flush, after_learn, learned_mark};
 ghost use Rattle.recent.specs.declared.remembered.Remembered.{Remembered};
-ghost use Rattle.recent.specs.Remembered.{Computes, alters, has_port, in_fid, is_of, left, recalled};
+ghost use Rattle.recent.specs.Remembered.{Touches, alters, has_port, in_fid, is_for, left, recalled};
 ghost use Rattle.recent.specs.Right.{IsRight, Right};
 
 use crate::remembered::Remembered;
@@ -19,7 +19,7 @@ pub(crate) fn recall(slots: &[Option<Remembered>], key: Key) -> Option<Option<u8
     slots
         .iter()
         .flatten()
-        .find(|answer| answer.is_of(key))
+        .find(|answer| answer.is_for(key))
         .map(|answer| answer.port)
 }
 
@@ -27,7 +27,7 @@ pub(crate) fn recall(slots: &[Option<Remembered>], key: Key) -> Option<Option<u8
 #[tactic(auto, using(crate::proofs::Rights::unaltered))]
 pub(crate) fn alters(mark: Mark) -> bool
     ensures answer { result ≡ alters mark }
-    ensures right { (l k : List Entry) (slots : List (Option Remembered)) (share f : ℕ) (a : List ℕ) (p t : ℕ) → k ≡ after_learn share l f a p t → Right l slots → Ok mark ≡ marked share l f a p → result ≡ false → Right k slots }
+    ensures right { (l k : List Entry) (slots : List (Option Remembered)) (share f : ℕ) (a : List ℕ) (p t : ℕ) → k ≡ after_learn share l f a p t → Right l slots → Ok mark ≡ learned_mark share l f a p → result ≡ false → Right k slots }
 {
     match mark {
         Mark::New | Mark::Moved | Mark::Unlearned => true,
@@ -38,10 +38,10 @@ pub(crate) fn alters(mark: Mark) -> bool
 // Forgets the answers that a change touched.
 pub(crate) fn forget<F: Fn(Remembered) -> bool>(slots: &mut [Option<Remembered>], touched: F)
     requires { F.IsAlwaysCallable touched }
-    ensures slots { (test : Remembered → Bool) → Computes F.Fn touched test → slots.new ≡ map (left test) slots.old }
-    ensures learned { (l k : List Entry) (share f : ℕ) (a : List ℕ) (p t : ℕ) → k ≡ after_learn share l f a p t → Right l slots.old → Computes F.Fn touched (is_of f a) → Right k slots.new }
-    ensures flushed { (l k : List Entry) (f : ℕ) → k ≡ after_flush l f → Right l slots.old → Computes F.Fn touched (in_fid f) → Right k slots.new }
-    ensures expired { (l k : List Entry) (limit : ℕ) → k ≡ after_expire limit l → Right l slots.old → Computes F.Fn touched has_port → Right k slots.new }
+    ensures slots { (test : Remembered → Bool) → Touches F.Fn touched test → slots.new ≡ map (left test) slots.old }
+    ensures learned { (l k : List Entry) (share f : ℕ) (a : List ℕ) (p t : ℕ) → k ≡ after_learn share l f a p t → Right l slots.old → Touches F.Fn touched (is_for f a) → Right k slots.new }
+    ensures flushed { (l k : List Entry) (f : ℕ) → k ≡ after_flush l f → Right l slots.old → Touches F.Fn touched (in_fid f) → Right k slots.new }
+    ensures expired { (l k : List Entry) (limit : ℕ) → k ≡ after_expire limit l → Right l slots.old → Touches F.Fn touched has_port → Right k slots.new }
 {
     for slot in slots.iter_mut() {
         if slot.is_some_and(&touched) {

@@ -55,7 +55,7 @@ impl<T: Table> Table for Recent<T> {
     fn learn(&mut self, entry: Entry) -> Result<Mark, Refusal> {
         let mark = self.table.learn(entry)?;
         if alters(mark) {
-            forget(&mut self.slots, |answer| answer.is_of(entry.key));
+            forget(&mut self.slots, |answer| answer.is_for(entry.key));
         }
         Ok(mark)
     }

@@ -1,6 +1,6 @@
 // One remembered answer.
 ghost use Rattle.std.specs.Prelude.{◌≡◌};
-ghost use Rattle.recent.specs.Remembered.{is_of};
+ghost use Rattle.recent.specs.Remembered.{is_for};
 
 use table::entry::Key;
 
@@ -12,8 +12,8 @@ pub struct Remembered {
 }
 
 impl Remembered {
-    pub(crate) fn is_of(&self, key: Key) -> bool
-        ensures { result ≡ is_of key.fid key.address self.now }
+    pub(crate) fn is_for(&self, key: Key) -> bool
+        ensures { result ≡ is_for key.fid key.address self.now }
     {
         self.key == key
     }

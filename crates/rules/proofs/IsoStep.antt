@@ -10,7 +10,7 @@ use Rattle.fault.specs.declared.refusal.Refusal.TheVariants.{NotStarted, PortOut
 use Rattle.frame.specs.Address.{group, reserved}
 use Rattle.frame.specs.Reading.{Picture}
 use Rattle.table.specs.declared.entry.Entry.{Entry}
-use Rattle.table.specs.Calls.{after_learn, answered, flushed, mark_at, port_of as entry_port}
+use Rattle.table.specs.Calls.{after_learn, answered, flushed, mark_at, entry_port}
 use Rattle.table.specs.Entries.{count_of, lookup}
 use Rattle.rules.specs.declared.ports.PortEvent.{PortEvent}
 use Rattle.rules.specs.Ports.{Ports, has_any, ports_where}

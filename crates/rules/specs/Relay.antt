@@ -4,7 +4,7 @@ use Rattle.std.specs.Str.{bytes_eq}
 use Rattle.fault.specs.declared.mark.Mark.{Mark}
 use Rattle.fault.specs.declared.mark.Mark.TheVariants.{Unlearned}
 use Rattle.frame.specs.Address.{group}
-use Rattle.table.specs.Calls.{after_learn, mark_at, port_of as entry_port}
+use Rattle.table.specs.Calls.{after_learn, mark_at, entry_port}
 use Rattle.table.specs.Entries.{count_of, lookup}
 use Rattle.rules.specs.Ports.{Ports, ports_where}
 use Rattle.rules.specs.declared.ports.PortState.{PortState}

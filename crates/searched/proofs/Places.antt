@@ -9,7 +9,7 @@ use Rattle.table.specs.declared.entry.Entry.{Entry}
 use Rattle.table.specs.Entries.{new_entry, has_key, lookup, entries_of, count_of}
 use Rattle.table.specs.Records.{rewritten}
 use Rattle.table.specs.Rising.{insert, rising}
-use Rattle.table.proofs.Records.{holds_some}
+use Rattle.table.proofs.Records.{has_pair_some}
 use Rattle.table.proofs.Rising.{look_rising, count_rising, rising_written}
 use Rattle.table.proofs.Views.{view_count}
 use Rattle.searched.specs.declared.searched.Searched.{Searched}
@@ -35,7 +35,7 @@ pub written_at : (l : List Entry) (f : ℕ) (a : List ℕ) (p t : ℕ) {i : ℕ}
 written_at l f a p t was place = sym (written l f a p t ∙ ap (λ k. set l k (new_entry f a p t)) (cond_some _ _ _ (sym place ∙ was)).1)
 
 pub renewed_at : (l : List Entry) (f : ℕ) (a : List ℕ) (p t : ℕ) {i : ℕ} {r : Option ℕ} → r ≡ Some i → r ≡ position (has_key f a) l → rising (set l i (new_entry f a p t)) ≡ insert (new_entry f a p t) (rising l)
-renewed_at l f a p t was place = ap rising (written_at l f a p t was place) ∙ rising_written l f a p t (holds_some l f a _ (sym (look_rising l f a) ∙ looked l f a (new_entry f a p t) was place))
+renewed_at l f a p t was place = ap rising (written_at l f a p t was place) ∙ rising_written l f a p t (has_pair_some l f a _ (sym (look_rising l f a) ∙ looked l f a (new_entry f a p t) was place))
 
 -- the entries of a database among the records are as many as in the set
 pub counted : (s : Searched) (f : ℕ) → length (entries_of f (taken s.rows)) ≡ count_of f (set_of s)

@@ -15,5 +15,5 @@ oldest_of [] = 18446744073709551615
 oldest_of (e ∷ es) = min e.heard (oldest_of es)
 
 -- What a closure may answer of an entry, by the relation `post`, is what the test says of it.
-abbrev pub Computes : (Bor Entry → Bool → Type 0) → (Entry → Bool) → Type 0
-Computes post p = (e : Bor Entry) (r : Bool) → post e r → r ≡ p e.now
+abbrev pub Keeps : (Bor Entry → Bool → Type 0) → (Entry → Bool) → Type 0
+Keeps post p = (e : Bor Entry) (r : Bool) → post e r → r ≡ p e.now

@@ -15,7 +15,7 @@ impl<'a> Rows<'a> {
     ghost use Rattle.std.specs.Prelude.{◌≡◌, ◌+◌, ◌<◌, Bool, [], ◌∷◌, ◌++◌, filter, position, slice_set};
     ghost use Rattle.table.specs.Entries.{entries_of, has_key};
     ghost use Rattle.table.specs.declared.entry.Entry.{Entry};
-    ghost use Rattle.searched.specs.Records.{Computes, oldest_of, taken};
+    ghost use Rattle.searched.specs.Records.{Keeps, oldest_of, taken};
 
     pub(crate) fn entries(&self) -> &[Entry]
         ensures { result.now ≡ taken self.now }
@@ -53,7 +53,7 @@ impl<'a> Rows<'a> {
     pub(crate) fn retain<F: Fn(&Entry) -> bool>(&mut self, keep: F) -> usize
         ghost test: { Entry → Bool }
         requires callable { F.IsAlwaysCallable keep }
-        requires tests { Computes (F.post keep) test }
+        requires tests { Keeps (F.post keep) test }
         ensures gone { result + self.new.used ≡ self.old.used }
         ensures later { taken self.new ≡ filter test (taken self.old) }
         ensures room { length self.new.all.now ≡ length self.old.all.now }

@@ -28,11 +28,11 @@ pub struct Searched<'a> {
 
 impl<'a> Searched<'a> {
     ghost use Rattle.std.specs.Prelude.{◌+◌, Bool, false, [], replicate, None, filter, nat_le};
-    ghost use Rattle.table.specs.Calls.{after_expire, port_of};
+    ghost use Rattle.table.specs.Calls.{after_expire, entry_port};
     ghost use Rattle.table.specs.Entries.{free_entry, is_fid, lookup};
     ghost use Rattle.table.specs.Rising.{insert};
     ghost use Rattle.table.specs.declared.entry.Entry.{Entry};
-    ghost use Rattle.searched.specs.Records.{Computes};
+    ghost use Rattle.searched.specs.Records.{Keeps};
     ghost use Rattle.searched.specs.Sets.{after_renewal, renewed, set_of};
 
     // An empty table in 16 records for each entry of the share. Records beyond these are left alone.
@@ -54,7 +54,7 @@ impl<'a> Searched<'a> {
 
     // The port at which an address was heard last.
     fn port(&self, key: Key) -> Option<u8>
-        ensures { result ≡ port_of (lookup (set_of self.now) key.fid key.address) }
+        ensures { result ≡ entry_port (lookup (set_of self.now) key.fid key.address) }
     {
         let at = self.rows.place(key)?;
         Some(self.rows.entries()[at].port)
@@ -106,7 +106,7 @@ impl<'a> Searched<'a> {
     fn remove<F: Fn(&Entry) -> bool>(&mut self, keep: F) -> usize
         ghost test: { Entry → Bool }
         requires callable { F.IsAlwaysCallable keep }
-        requires tests { Computes (F.post keep) test }
+        requires tests { Keeps (F.post keep) test }
         ensures gone { result + length (set_of self.new) ≡ length (set_of self.old) }
         ensures later { set_of self.new ≡ filter test (set_of self.old) }
         ensures share { self.new.share ≡ self.old.share }

@@ -3,17 +3,17 @@
 use Rattle.std.specs.Prelude.{ℕ, ◌+◌, ◌-◌, ◌*◌, ◌/◌, ◌%◌, ◌^◌, cond, List, bit_xor, nat_le, nat_lt, slice_index}
 
 -- The database and the six bytes of the address as one number.
-abbrev pub packed : ℕ → List ℕ → ℕ
-packed f a = 0 * 72057594037927936 + f * 281474976710656 + slice_index a 0 * 1099511627776 + slice_index a 1 * 4294967296 + slice_index a 2 * 16777216 + slice_index a 3 * 65536 + slice_index a 4 * 256 + slice_index a 5
+abbrev pub pair_number : ℕ → List ℕ → ℕ
+pair_number f a = 0 * 72057594037927936 + f * 281474976710656 + slice_index a 0 * 1099511627776 + slice_index a 1 * 4294967296 + slice_index a 2 * 16777216 + slice_index a 3 * 65536 + slice_index a 4 * 256 + slice_index a 5
 
 abbrev pub spread : ℕ → ℕ
 spread k = k * 0x9e3779b97f4a7c15 % 2 ^ 64
 
-abbrev pub mixed : ℕ → ℕ
-mixed s = bit_xor s (s / 4294967296) * 0xbf58476d1ce4e5b9 % 2 ^ 64
+abbrev pub folded : ℕ → ℕ
+folded s = bit_xor s (s / 4294967296) * 0xbf58476d1ce4e5b9 % 2 ^ 64
 
 unfoldable pub hash_of : ℕ → List ℕ → ℕ
-hash_of f a = mixed (spread (packed f a))
+hash_of f a = folded (spread (pair_number f a))
 
 unfoldable pub home_of : ℕ → ℕ → List ℕ → ℕ
 home_of n f a = hash_of f a * n / 2 ^ 64

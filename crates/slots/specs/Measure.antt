@@ -28,16 +28,16 @@ abbrev pub with_next : Bounds → ℕ → ℕ → Bounds
 with_next b steps heard = record { held = one_more b.held; reach = max b.reach (one_more steps); oldest = min b.oldest heard }
 
 -- The bounds with the record at i: a free record counts for nothing.
-abbrev pub counted : ℕ → ℕ → Bounds → Entry → Bounds
-counted n i b e = cond (is_free e) b (with_new b (gap n (home_of n e.key.fid e.key.address) i) e.heard)
+abbrev pub with_record : ℕ → ℕ → Bounds → Entry → Bounds
+with_record n i b e = cond (is_free e) b (with_new b (gap n (home_of n e.key.fid e.key.address) i) e.heard)
 
 -- The bounds with the records from i on.
-abbrev pub counted_from : ℕ → ℕ → Bounds → List Entry → Bounds
-counted_from n i b [] = b
-counted_from n i b (e ∷ es) = counted_from n (i + 1) (counted n i b e) es
+abbrev pub with_records : ℕ → ℕ → Bounds → List Entry → Bounds
+with_records n i b [] = b
+with_records n i b (e ∷ es) = with_records n (i + 1) (with_record n i b e) es
 
 abbrev pub measured : List Entry → Bounds
-measured xs = counted_from (length xs) 0 empty_bounds xs
+measured xs = with_records (length xs) 0 empty_bounds xs
 
 -- Each entry lies among the first r records from its home on.
 abbrev pub AllNear : List Entry → ℕ → Type 0

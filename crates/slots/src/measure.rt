@@ -1,6 +1,6 @@
 // What is known of a stretch of records without looking at them.
 ghost use Rattle.std.specs.Prelude.{◌≡◌, ◌+◌, ◌<◌, ◌≤◌, nat_le};
-ghost use Rattle.slots.specs.Measure.{counted, empty_bounds, measured, with_heard, with_new, with_next};
+ghost use Rattle.slots.specs.Measure.{empty_bounds, measured, with_heard, with_new, with_next, with_record};
 
 use crate::hash::{home, steps_to};
 use table::entry::Entry;
@@ -44,7 +44,7 @@ impl Bounds {
     fn with_record(self, n: usize, at: usize, entry: &Entry) -> Bounds
         requires place { at < n }
         requires few { self.held ≤ at }
-        ensures value { result ≡ counted n at self entry.now }
+        ensures value { result ≡ with_record n at self entry.now }
         ensures fits { result.held ≤ at + 1 }
     {
         if entry.is_free() {

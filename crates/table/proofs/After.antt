@@ -6,13 +6,13 @@ use Rattle.fault.specs.declared.mark.Mark.{Mark}
 use Rattle.fault.specs.declared.mark.Mark.TheVariants.{Known, Full}
 use Rattle.table.specs.declared.entry.Entry.{Entry}
 use Rattle.table.specs.Entries.{is_fid, new_entry, has_key, lookup, count_of}
-use Rattle.table.specs.Calls.{answered, mark_at, marked, after_learn, heard_by, heard_after, expired, after_expire}
+use Rattle.table.specs.Calls.{answered, mark_at, learned_mark, after_learn, heard_by, heard_after, expired, after_expire}
 use Rattle.table.proofs.Records.{key_is}
 use Rattle.table.proofs.Rising.{look_insert}
 
 -- the mark
 
-pub marked_at : (share : ℕ) (l : List Entry) (f : ℕ) (a : List ℕ) (p : ℕ) (m : Mark) → Ok m ≡ marked share l f a p → (is_fid f ≡ true) × (m ≡ mark_at share (count_of f l) p (lookup l f a))
+pub marked_at : (share : ℕ) (l : List Entry) (f : ℕ) (a : List ℕ) (p : ℕ) (m : Mark) → Ok m ≡ learned_mark share l f a p → (is_fid f ≡ true) × (m ≡ mark_at share (count_of f l) p (lookup l f a))
 marked_at share l f a p m h = (grind arith, grind arith)
 
 pub full_at : (share n p : ℕ) (l : List Entry) (f : ℕ) (a : List ℕ) → Full ≡ mark_at share n p (lookup l f a) → (lookup l f a ≡ None) × (ltb n share ≡ false)
@@ -25,13 +25,13 @@ pub answer_other : (share : ℕ) (l : List Entry) (f : ℕ) (a : List ℕ) (p t 
 answer_other share l f a p t g b h = grind (arith, look_insert (new_entry f a p t) l g b)
 
 -- any pair, where the port was the same
-pub answer_known : (share : ℕ) (l : List Entry) (f : ℕ) (a : List ℕ) (p t g : ℕ) (b : List ℕ) → Ok Known ≡ marked share l f a p → answered (after_learn share l f a p t) g b ≡ answered l g b
+pub answer_known : (share : ℕ) (l : List Entry) (f : ℕ) (a : List ℕ) (p t g : ℕ) (b : List ℕ) → Ok Known ≡ learned_mark share l f a p → answered (after_learn share l f a p t) g b ≡ answered l g b
 answer_known share l f a p t g b h =
     let e = new_entry f a p t in
     grind (arith, nat_tests, look_insert e l g b, key_is g b e)
 
 -- any pair, where there was no room
-pub after_full : (share : ℕ) (l : List Entry) (f : ℕ) (a : List ℕ) (p t : ℕ) → Ok Full ≡ marked share l f a p → after_learn share l f a p t ≡ l
+pub after_full : (share : ℕ) (l : List Entry) (f : ℕ) (a : List ℕ) (p t : ℕ) → Ok Full ≡ learned_mark share l f a p → after_learn share l f a p t ≡ l
 after_full share l f a p t h = grind arith
 
 -- a pair that has no entry has none after others are removed

@@ -5,9 +5,9 @@ use Rattle.fault.specs.declared.mark.Mark.{Mark}
 use Rattle.table.specs.declared.entry.Entry.{Entry}
 use Rattle.table.specs.Entries.{is_fid, new_entry, lookup, not_of_fid, count_of, fids_in_range}
 use Rattle.table.specs.Rising.{rising}
-use Rattle.table.specs.Calls.{mark_at, marked, after_learn, flushed, after_flush}
-use Rattle.table.specs.Records.{distinct, holds, rewritten, Orderly}
-use Rattle.table.proofs.Records.{distinct_kept, holds_some, holds_none, holds_front}
+use Rattle.table.specs.Calls.{mark_at, learned_mark, after_learn, flushed, after_flush}
+use Rattle.table.specs.Records.{distinct, has_pair, rewritten, Orderly}
+use Rattle.table.proofs.Records.{distinct_kept, has_pair_some, has_pair_none, has_pair_front}
 use Rattle.table.proofs.Rising.{look_rising, count_rising, size_rising, kept_rising, range_rising, rising_in, rising_written}
 
 pub fair_rising : (share : ℕ) (l : List Entry) → Orderly share l → (f : ℕ) → count_of f (rising l) ≤ share
@@ -18,17 +18,17 @@ ranged_rising share l o = range_rising l o.ranged
 
 -- learn
 
-pub mark_is : (share : ℕ) (l : List Entry) (f : ℕ) (a : List ℕ) (p : ℕ) (o : Option Entry) (m : Mark) → Orderly share l → is_fid f ≡ true → lookup l f a ≡ o → mark_at share (count_of f l) p o ≡ m → Ok m ≡ marked share (rising l) f a p
+pub mark_is : (share : ℕ) (l : List Entry) (f : ℕ) (a : List ℕ) (p : ℕ) (o : Option Entry) (m : Mark) → Orderly share l → is_fid f ≡ true → lookup l f a ≡ o → mark_at share (count_of f l) p o ≡ m → Ok m ≡ learned_mark share (rising l) f a p
 mark_is share l f a p o m d r e k = grind (arith, look_rising l f a, count_rising f l d.apart)
 
 -- the entry of the pair is written anew
 pub over_is : (share : ℕ) (l m : List Entry) (f : ℕ) (a : List ℕ) (p t : ℕ) (e : Entry) → is_fid f ≡ true → lookup l f a ≡ Some e → m ≡ rewritten l f a p t → rising m ≡ after_learn share (rising l) f a p t
-over_is share l m f a p t e r h w = grind (arith, look_rising l f a, rising_written l f a p t (holds_some l f a e h))
+over_is share l m f a p t e r h w = grind (arith, look_rising l f a, rising_written l f a p t (has_pair_some l f a e h))
 
 -- a new entry is written anywhere among them
 pub new_is : (share : ℕ) (k n : List Entry) (f : ℕ) (a : List ℕ) (p t : ℕ) → is_fid f ≡ true → Orderly share (k ++ n) → lookup (k ++ n) f a ≡ None → count_of f (k ++ n) < share → rising (k ++ new_entry f a p t ∷ n) ≡ after_learn share (rising (k ++ n)) f a p t
 new_is share k n f a p t r d h c =
-    let no' : holds k f a ≡ false = holds_front k n f a (holds_none (k ++ n) f a h) in
+    let no' : has_pair k f a ≡ false = has_pair_front k n f a (has_pair_none (k ++ n) f a h) in
     grind (arith, nat_tests, look_rising (k ++ n) f a, count_rising f (k ++ n) d.apart, rising_in k n (new_entry f a p t) no')
 
 -- there is no room

@@ -11,7 +11,7 @@ use Rattle.std.proofs.lemmas.List.Sums.{length-filter}
 use Rattle.std.proofs.lemmas.Slice.Eq.{bytes_eq-Decides}
 use Rattle.table.specs.declared.entry.Entry.{Entry}
 use Rattle.table.specs.Entries.{is_fid, has_key, lookup, of_fid, not_of_fid, count_of, fids_in_range}
-use Rattle.table.specs.Records.{holds, distinct, rewritten, Orderly}
+use Rattle.table.specs.Records.{has_pair, distinct, rewritten, Orderly}
 
 -- keys
 
@@ -29,19 +29,19 @@ key_sym x e = same_from_decides _ _ (keyed x.key.fid x.key.address e) (Decides-l
 
 -- the entry of a pair is there exactly where a look-up finds it
 
-pub holds_is : (l : List Entry) (f : ℕ) (a : List ℕ) → holds l f a ≡ is_some (lookup l f a)
-holds_is [] f a = refl
-holds_is (e ∷ es) f a = grind (arith, holds_is es f a)
+pub has_pair_is : (l : List Entry) (f : ℕ) (a : List ℕ) → has_pair l f a ≡ is_some (lookup l f a)
+has_pair_is [] f a = refl
+has_pair_is (e ∷ es) f a = grind (arith, has_pair_is es f a)
 
-pub holds_some : (l : List Entry) (f : ℕ) (a : List ℕ) (e : Entry) → lookup l f a ≡ Some e → holds l f a ≡ true
-holds_some l f a e h = holds_is l f a ∙ ap is_some h
+pub has_pair_some : (l : List Entry) (f : ℕ) (a : List ℕ) (e : Entry) → lookup l f a ≡ Some e → has_pair l f a ≡ true
+has_pair_some l f a e h = has_pair_is l f a ∙ ap is_some h
 
-pub holds_none : (l : List Entry) (f : ℕ) (a : List ℕ) → lookup l f a ≡ None → holds l f a ≡ false
-holds_none l f a h = holds_is l f a ∙ ap is_some h
+pub has_pair_none : (l : List Entry) (f : ℕ) (a : List ℕ) → lookup l f a ≡ None → has_pair l f a ≡ false
+has_pair_none l f a h = has_pair_is l f a ∙ ap is_some h
 
-pub holds_front : (l m : List Entry) (f : ℕ) (a : List ℕ) → holds (l ++ m) f a ≡ false → holds l f a ≡ false
-holds_front [] m f a h = refl
-holds_front (e ∷ l) m f a h = grind (arith, holds_front l m f a)
+pub has_pair_front : (l m : List Entry) (f : ℕ) (a : List ℕ) → has_pair (l ++ m) f a ≡ false → has_pair l f a ≡ false
+has_pair_front [] m f a h = refl
+has_pair_front (e ∷ l) m f a h = grind (arith, has_pair_front l m f a)
 
 -- counts
 
@@ -58,13 +58,13 @@ pub kept_both : (p q r : Entry → Bool) → ((e : Entry) → cond (p e) (q e) f
 kept_both p q r h [] = refl
 kept_both p q r h (e ∷ es) = grind (arith, kept_both p q r h es, h e)
 
-pub holds_kept : (p : Entry → Bool) (l : List Entry) (f : ℕ) (a : List ℕ) → holds l f a ≡ false → holds (filter p l) f a ≡ false
-holds_kept p [] f a h = refl
-holds_kept p (e ∷ es) f a h = grind (arith, holds_kept p es f a)
+pub has_pair_kept : (p : Entry → Bool) (l : List Entry) (f : ℕ) (a : List ℕ) → has_pair l f a ≡ false → has_pair (filter p l) f a ≡ false
+has_pair_kept p [] f a h = refl
+has_pair_kept p (e ∷ es) f a h = grind (arith, has_pair_kept p es f a)
 
 pub distinct_kept : (p : Entry → Bool) (l : List Entry) → distinct l ≡ true → distinct (filter p l) ≡ true
 distinct_kept p [] h = refl
-distinct_kept p (e ∷ es) h = grind (arith, distinct_kept p es, holds_kept p es e.key.fid e.key.address)
+distinct_kept p (e ∷ es) h = grind (arith, distinct_kept p es, has_pair_kept p es e.key.fid e.key.address)
 
 pub count_kept : (p : Entry → Bool) (f : ℕ) (l : List Entry) → count_of f (filter p l) ≤ count_of f l
 count_kept p f [] = omega arith
@@ -76,13 +76,13 @@ in_kept p (e ∷ es) h = grind (arith, in_kept p es)
 
 -- an entry is written anew
 
-holds_written : (l : List Entry) (f : ℕ) (a : List ℕ) (p t g : ℕ) (b : List ℕ) → holds (rewritten l f a p t) g b ≡ holds l g b
-holds_written [] f a p t g b = refl
-holds_written (e ∷ es) f a p t g b = grind (arith, holds_written es f a p t g b, key_is f a e)
+has_pair_written : (l : List Entry) (f : ℕ) (a : List ℕ) (p t g : ℕ) (b : List ℕ) → has_pair (rewritten l f a p t) g b ≡ has_pair l g b
+has_pair_written [] f a p t g b = refl
+has_pair_written (e ∷ es) f a p t g b = grind (arith, has_pair_written es f a p t g b, key_is f a e)
 
 distinct_written : (l : List Entry) (f : ℕ) (a : List ℕ) (p t : ℕ) → distinct (rewritten l f a p t) ≡ distinct l
 distinct_written [] f a p t = refl
-distinct_written (e ∷ es) f a p t = grind (arith, distinct_written es f a p t, holds_written es f a p t e.key.fid e.key.address, key_is f a e)
+distinct_written (e ∷ es) f a p t = grind (arith, distinct_written es f a p t, has_pair_written es f a p t e.key.fid e.key.address, key_is f a e)
 
 count_written : (l : List Entry) (f : ℕ) (a : List ℕ) (p t g : ℕ) → count_of g (rewritten l f a p t) ≡ count_of g l
 count_written [] f a p t g = refl
@@ -104,13 +104,13 @@ fair_in share l m x h c g = grind (arith, nat_tests, count_in l m x g, h g)
 range_in : (l m : List Entry) (x : Entry) → fids_in_range (l ++ m) ≡ true → is_fid x.key.fid ≡ true → fids_in_range (l ++ x ∷ m) ≡ true
 range_in l m x h k = let p : Entry → Bool = λ e. is_fid e.key.fid in grind (arith, list_all-append p l (x ∷ m), list_all-append p l m)
 
-holds_in : (l m : List Entry) (x : Entry) (g : ℕ) (b : List ℕ) → holds (l ++ m) g b ≡ false → has_key g b x ≡ false → holds (l ++ x ∷ m) g b ≡ false
-holds_in [] m x g b h k = grind arith
-holds_in (e ∷ l) m x g b h k = grind (arith, holds_in l m x g b)
+has_pair_in : (l m : List Entry) (x : Entry) (g : ℕ) (b : List ℕ) → has_pair (l ++ m) g b ≡ false → has_key g b x ≡ false → has_pair (l ++ x ∷ m) g b ≡ false
+has_pair_in [] m x g b h k = grind arith
+has_pair_in (e ∷ l) m x g b h k = grind (arith, has_pair_in l m x g b)
 
-distinct_in : (l m : List Entry) (x : Entry) → distinct (l ++ m) ≡ true → holds (l ++ m) x.key.fid x.key.address ≡ false → distinct (l ++ x ∷ m) ≡ true
+distinct_in : (l m : List Entry) (x : Entry) → distinct (l ++ m) ≡ true → has_pair (l ++ m) x.key.fid x.key.address ≡ false → distinct (l ++ x ∷ m) ≡ true
 distinct_in [] m x h k = grind arith
-distinct_in (e ∷ l) m x h k = grind (arith, distinct_in l m x, holds_in l m x e.key.fid e.key.address, key_sym x e)
+distinct_in (e ∷ l) m x h k = grind (arith, distinct_in l m x, has_pair_in l m x e.key.fid e.key.address, key_sym x e)
 
 -- what is kept true of the entries stays true
 
@@ -134,6 +134,6 @@ orderly_written share l m f a p t o e = record {
 pub orderly_in : (share : ℕ) (k n : List Entry) (x : Entry) → Orderly share (k ++ n) → is_fid x.key.fid ≡ true → lookup (k ++ n) x.key.fid x.key.address ≡ None → count_of x.key.fid (k ++ n) < share → Orderly share (k ++ x ∷ n)
 orderly_in share k n x o r h c = record {
   ranged = range_in k n x o.ranged r;
-  apart = distinct_in k n x o.apart (holds_none (k ++ n) x.key.fid x.key.address h);
+  apart = distinct_in k n x o.apart (has_pair_none (k ++ n) x.key.fid x.key.address h);
   fair = fair_in share k n x o.fair c;
 }

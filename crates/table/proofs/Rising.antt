@@ -5,9 +5,9 @@ use Rattle.std.specs.Option.{is_some}
 use Rattle.table.specs.declared.entry.Entry.{Entry}
 use Rattle.table.specs.Entries.{is_fid, new_entry, has_key, lookup, count_of, fids_in_range}
 use Rattle.table.specs.Rising.{order, insert, rising, comes_before, rises}
-use Rattle.table.specs.Records.{holds, distinct, rewritten}
+use Rattle.table.specs.Records.{has_pair, distinct, rewritten}
 use Rattle.table.proofs.Order.{order_trans, order_key, key_order, order_left, order_right, order_more, order_less, order_eq}
-use Rattle.table.proofs.Records.{key_is, key_of, holds_is}
+use Rattle.table.proofs.Records.{key_is, key_of, has_pair_is}
 
 -- the three answers of the order
 
@@ -37,30 +37,30 @@ pub look_rising : (l : List Entry) (f : ℕ) (a : List ℕ) → lookup (rising l
 look_rising [] f a = refl
 look_rising (e ∷ es) f a = grind (arith, look_insert e (rising es) f a, look_rising es f a)
 
-holds_rising : (l : List Entry) (f : ℕ) (a : List ℕ) → holds (rising l) f a ≡ holds l f a
-holds_rising l f a = holds_is (rising l) f a ∙ ap is_some (look_rising l f a) ∙ sym (holds_is l f a)
+has_pair_rising : (l : List Entry) (f : ℕ) (a : List ℕ) → has_pair (rising l) f a ≡ has_pair l f a
+has_pair_rising l f a = has_pair_is (rising l) f a ∙ ap is_some (look_rising l f a) ∙ sym (has_pair_is l f a)
 
 -- an entry whose pair is not there is not equal in the order to one that is
-absent : (e x : Entry) (l : List Entry) → holds (x ∷ l) e.key.fid e.key.address ≡ false → order e x ≡ Equal → ⊥
+absent : (e x : Entry) (l : List Entry) → has_pair (x ∷ l) e.key.fid e.key.address ≡ false → order e x ≡ Equal → ⊥
 absent e x l h q = grind (arith, order_key e x, key_of e.key.fid e.key.address x)
 
 -- counts
 
-pub count_insert : (g : ℕ) (e : Entry) (l : List Entry) → holds l e.key.fid e.key.address ≡ false → count_of g (insert e l) ≡ count_of g (e ∷ l)
+pub count_insert : (g : ℕ) (e : Entry) (l : List Entry) → has_pair l e.key.fid e.key.address ≡ false → count_of g (insert e l) ≡ count_of g (e ∷ l)
 count_insert g e [] h = refl
 count_insert g e (x ∷ l) h = grind (arith, count_insert g e l, absent e x l)
 
 pub count_rising : (g : ℕ) (l : List Entry) → distinct l ≡ true → count_of g (rising l) ≡ count_of g l
 count_rising g [] h = refl
-count_rising g (e ∷ es) h = grind (arith, count_rising g es, count_insert g e (rising es), holds_rising es e.key.fid e.key.address)
+count_rising g (e ∷ es) h = grind (arith, count_rising g es, count_insert g e (rising es), has_pair_rising es e.key.fid e.key.address)
 
-size_insert : (e : Entry) (l : List Entry) → holds l e.key.fid e.key.address ≡ false → length (insert e l) ≡ length (e ∷ l)
+size_insert : (e : Entry) (l : List Entry) → has_pair l e.key.fid e.key.address ≡ false → length (insert e l) ≡ length (e ∷ l)
 size_insert e [] h = refl
 size_insert e (x ∷ l) h = grind (arith, size_insert e l, absent e x l)
 
 pub size_rising : (l : List Entry) → distinct l ≡ true → length (rising l) ≡ length l
 size_rising [] h = refl
-size_rising (e ∷ es) h = grind (arith, size_rising es, size_insert e (rising es), holds_rising es e.key.fid e.key.address)
+size_rising (e ∷ es) h = grind (arith, size_rising es, size_insert e (rising es), has_pair_rising es e.key.fid e.key.address)
 
 -- the list rises
 
@@ -109,21 +109,21 @@ kept_insert p e [] h r = grind arith
 kept_insert p e (x ∷ l) h r = grind (arith, kept_insert p e l, before_far e x l, before_same e x l, insert_before e (filter p l), before_kept p e l)
 
 -- an entry under a key of its own that does not pass is not seen past a filter
-kept_insert_gone : (p : Entry → Bool) (e : Entry) (l : List Entry) → p e ≡ false → holds l e.key.fid e.key.address ≡ false → filter p (insert e l) ≡ filter p l
+kept_insert_gone : (p : Entry → Bool) (e : Entry) (l : List Entry) → p e ≡ false → has_pair l e.key.fid e.key.address ≡ false → filter p (insert e l) ≡ filter p l
 kept_insert_gone p e [] h k = grind arith
 kept_insert_gone p e (x ∷ l) h k = grind (arith, kept_insert_gone p e l, absent e x l)
 
 pub kept_rising : (p : Entry → Bool) (l : List Entry) → distinct l ≡ true → filter p (rising l) ≡ rising (filter p l)
 kept_rising p [] h = refl
-kept_rising p (e ∷ es) h = grind (arith, kept_rising p es, kept_insert p e (rising es), rises_rising es, kept_insert_gone p e (rising es), holds_rising es e.key.fid e.key.address)
+kept_rising p (e ∷ es) h = grind (arith, kept_rising p es, kept_insert p e (rising es), rises_rising es, kept_insert_gone p e (rising es), has_pair_rising es e.key.fid e.key.address)
 
 -- a new entry may stand anywhere
-pub rising_in : (l m : List Entry) (x : Entry) → holds l x.key.fid x.key.address ≡ false → rising (l ++ x ∷ m) ≡ insert x (rising (l ++ m))
+pub rising_in : (l m : List Entry) (x : Entry) → has_pair l x.key.fid x.key.address ≡ false → rising (l ++ x ∷ m) ≡ insert x (rising (l ++ m))
 rising_in [] m x h = refl
 rising_in (y ∷ l) m x h = grind (arith, rising_in l m x, insert_comm y x (rising (l ++ m)), order_eq y x, absent x y l)
 
 -- an entry is written over the one under its key
-pub rising_written : (l : List Entry) (f : ℕ) (a : List ℕ) (p t : ℕ) → holds l f a ≡ true → rising (rewritten l f a p t) ≡ insert (new_entry f a p t) (rising l)
+pub rising_written : (l : List Entry) (f : ℕ) (a : List ℕ) (p t : ℕ) → has_pair l f a ≡ true → rising (rewritten l f a p t) ≡ insert (new_entry f a p t) (rising l)
 rising_written [] f a p t h = grind arith
 rising_written (e ∷ es) f a p t h =
     let n = new_entry f a p t in

@@ -6,7 +6,7 @@ use Rattle.std.proofs.lemmas.List.Sums.{length-filter}
 use Rattle.table.specs.declared.entry.Entry.{Entry}
 use Rattle.table.specs.Entries.{is_fid, new_entry, lookup, of_fid, not_of_fid, entries_of, count_of}
 use Rattle.table.specs.Rising.{insert, rises}
-use Rattle.table.specs.Calls.{answered, marked, after_learn, after_expire, heard_after, flushed, after_flush}
+use Rattle.table.specs.Calls.{answered, learned_mark, after_learn, after_expire, heard_after, flushed, after_flush}
 use Rattle.table.proofs.Order.{order_key}
 use Rattle.table.proofs.Records.{count_is, kept_both}
 use Rattle.table.proofs.Rising.{kept_insert}
@@ -64,7 +64,7 @@ count_own g l = rw (view_count g l, view_count g (entries_of g l), own_twice g l
 pub own_answer : (f : ℕ) (a : List ℕ) (l : List Entry) → answered l f a ≡ answered (entries_of f l) f a
 own_answer f a l = view_answer f a l (entries_of f l) (sym (own_twice f l))
 
-pub own_mark : (share : ℕ) (l : List Entry) (f : ℕ) (a : List ℕ) (p : ℕ) → marked share l f a p ≡ marked share (entries_of f l) f a p
+pub own_mark : (share : ℕ) (l : List Entry) (f : ℕ) (a : List ℕ) (p : ℕ) → learned_mark share l f a p ≡ learned_mark share (entries_of f l) f a p
 own_mark share l f a p = rw (count_own f l, view_look f a l)
 
 pub own_learn : (share : ℕ) (l : List Entry) (f : ℕ) (a : List ℕ) (p t : ℕ) → rises l ≡ true → entries_of f (after_learn share l f a p t) ≡ after_learn share (entries_of f l) f a p t

@@ -9,13 +9,13 @@ use Rattle.table.specs.declared.entry.Entry.{Entry}
 use Rattle.table.specs.Entries.{is_fid, new_entry, lookup, not_of_fid, count_of}
 use Rattle.table.specs.Rising.{insert}
 
-abbrev pub port_of : Option Entry → Option ℕ
-port_of None = None
-port_of (Some e) = Some e.port
+abbrev pub entry_port : Option Entry → Option ℕ
+entry_port None = None
+entry_port (Some e) = Some e.port
 
 -- What `find` answers: the port of the pair, or none.
 abbrev pub answered : List Entry → ℕ → List ℕ → Result (Option ℕ) Refusal
-answered l f a = cond (is_fid f) (Ok (port_of (lookup l f a))) (Err FidOutOfRange)
+answered l f a = cond (is_fid f) (Ok (entry_port (lookup l f a))) (Err FidOutOfRange)
 
 -- The mark for a pair that was heard before, by the port then and the port now.
 abbrev pub again : ℕ → ℕ → Mark
@@ -28,8 +28,8 @@ mark_at share n p None = cond (nat_lt n share) New Full
 mark_at share n p (Some e) = again e.port p
 
 -- What `learn` answers.
-abbrev pub marked : ℕ → List Entry → ℕ → List ℕ → ℕ → Result Mark Refusal
-marked share l f a p = cond (is_fid f) (Ok (mark_at share (count_of f l) p (lookup l f a))) (Err FidOutOfRange)
+abbrev pub learned_mark : ℕ → List Entry → ℕ → List ℕ → ℕ → Result Mark Refusal
+learned_mark share l f a p = cond (is_fid f) (Ok (mark_at share (count_of f l) p (lookup l f a))) (Err FidOutOfRange)
 
 -- The set with an entry learned, where `old` is the entry that its pair had.
 abbrev pub learn_at : ℕ → List Entry → Entry → Option Entry → List Entry

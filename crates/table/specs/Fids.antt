@@ -5,9 +5,9 @@ use Rattle.fault.specs.declared.refusal.Refusal.TheVariants.{FidOutOfRange}
 use Rattle.table.specs.Entries.{is_fid}
 use Rattle.table.specs.declared.fid.Fid.{Fid}
 
-abbrev pub number_of : Result Fid Refusal → Result ℕ Refusal
-number_of (Ok fid) = Ok fid.number
-number_of (Err e) = Err e
+abbrev pub fid_number : Result Fid Refusal → Result ℕ Refusal
+fid_number (Ok fid) = Ok fid.number
+fid_number (Err e) = Err e
 
 abbrev pub Names : ℕ → Result Fid Refusal → Type 0
-Names n r = number_of r ≡ cond (is_fid n) (Ok n) (Err FidOutOfRange)
+Names n r = fid_number r ≡ cond (is_fid n) (Ok n) (Err FidOutOfRange)

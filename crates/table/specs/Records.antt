@@ -12,14 +12,14 @@ abbrev pub held_of : List Entry → List Entry
 held_of l = filter in_use l
 
 -- There is an entry of this pair.
-abbrev pub holds : List Entry → ℕ → List ℕ → Bool
-holds [] f a = false
-holds (e ∷ es) f a = cond (has_key f a e) true (holds es f a)
+abbrev pub has_pair : List Entry → ℕ → List ℕ → Bool
+has_pair [] f a = false
+has_pair (e ∷ es) f a = cond (has_key f a e) true (has_pair es f a)
 
 -- No two entries are of one pair.
 abbrev pub distinct : List Entry → Bool
 distinct [] = true
-distinct (e ∷ es) = not (holds es e.key.fid e.key.address) && distinct es
+distinct (e ∷ es) = not (has_pair es e.key.fid e.key.address) && distinct es
 
 -- The entry of a pair is written anew, where it lies.
 abbrev pub rewritten : List Entry → ℕ → List ℕ → ℕ → ℕ → List Entry

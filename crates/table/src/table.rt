@@ -3,7 +3,7 @@
 ghost use Rattle.std.specs.Prelude.{◌≡◌, ℕ, ◌≤◌, true, List};
 ghost use Rattle.table.specs.Entries.{count_of, fids_in_range};
 ghost use Rattle.table.specs.Rising.{rises};
-ghost use Rattle.table.specs.Calls.{after_expire, after_flush, after_learn, answered, expired, flushed, marked};
+ghost use Rattle.table.specs.Calls.{after_expire, after_flush, after_learn, answered, expired, flushed, learned_mark};
 ghost use Rattle.table.specs.declared.entry.Entry.{Entry};
 
 use crate::entry::{Entry, Key};
@@ -25,7 +25,7 @@ pub trait Table {
 
     // An address was heard at a port. One that is not known yet is added while its database has room.
     fn learn(&mut self, entry: Entry) -> Result<Mark, Refusal>
-        ensures answer { result ≡ marked (share self.old) (entries self.old) entry.key.fid entry.key.address entry.port }
+        ensures answer { result ≡ learned_mark (share self.old) (entries self.old) entry.key.fid entry.key.address entry.port }
         ensures later { entries self.new ≡ after_learn (share self.old) (entries self.old) entry.key.fid entry.key.address entry.port entry.heard }
         ensures share { share self.new ≡ share self.old };
 

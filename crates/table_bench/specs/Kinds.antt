@@ -4,12 +4,12 @@ use Rattle.table_bench.specs.declared.kind.Kind.{Kind}
 use Rattle.table_bench.specs.declared.kind.Kind.TheVariants.{Searched, Hashed, RecentOverSearched, RecentOverHashed}
 use Rattle.table_bench.specs.declared.kind.UnknownKind.{UnknownKind}
 
-abbrev pub number_of : Kind → ℕ
-number_of Searched = 0
-number_of Hashed = 1
-number_of RecentOverSearched = 2
-number_of RecentOverHashed = 3
+abbrev pub kind_number : Kind → ℕ
+kind_number Searched = 0
+kind_number Hashed = 1
+kind_number RecentOverSearched = 2
+kind_number RecentOverHashed = 3
 
 -- The kind with this number, or an error with a number that no kind has.
 abbrev pub Decodes : ℕ → Result Kind UnknownKind → Type 0
-Decodes n r = MatchResult r (λ kind. number_of kind ≡ n) (λ e. (e.0 ≡ n) × (3 < n))
+Decodes n r = MatchResult r (λ kind. kind_number kind ≡ n) (λ e. (e.0 ≡ n) × (3 < n))

@@ -6,7 +6,7 @@ use Rattle.fault.specs.declared.mark.Mark.{Mark}
 use Rattle.fault.specs.declared.mark.Mark.TheVariants.{New, Known, Moved, Full, Unlearned}
 use Rattle.fault.specs.declared.refusal.Refusal.{Refusal}
 use Rattle.table.specs.declared.entry.Entry.{Entry}
-use Rattle.table.specs.Calls.{answered, marked, after_learn, expired, after_expire}
+use Rattle.table.specs.Calls.{answered, learned_mark, after_learn, expired, after_expire}
 use Rattle.table.specs.Entries.{new_entry}
 
 -- The filtering database and the port of the entry with a number.
@@ -29,9 +29,9 @@ abbrev pub entry_at : ℕ → ℕ → Entry
 entry_at i t = new_entry (fid_at i) (address_at (i / 16)) (port_at i) t
 
 -- The entry that has its turn at a step.
-unfoldable pub turn_of : ℕ → ℕ → ℕ → ℕ
-turn_of n stride zero = 0
-turn_of n stride (suc k) = strode n stride (turn_of n stride k)
+unfoldable pub at_step : ℕ → ℕ → ℕ → ℕ
+at_step n stride zero = 0
+at_step n stride (suc k) = strode n stride (at_step n stride k)
 
 -- The set after k entries were learned at the time 1.
 unfoldable pub filled : ℕ → ℕ → List Entry
@@ -64,11 +64,11 @@ abbrev pub found_worth : ℕ → ℕ → List Entry → ℕ → ℕ
 found_worth from share l at = worth_of (answered l (fid_at at) (address_at (from + at / 16)))
 
 -- A learn hears an entry again, at the time of its step.
-abbrev pub learned : ℕ → List Entry → ℕ → ℕ → List Entry
-learned share l at k = after_learn share l (fid_at at) (address_at (at / 16)) (port_at at) k
+abbrev pub heard_again : ℕ → List Entry → ℕ → ℕ → List Entry
+heard_again share l at k = after_learn share l (fid_at at) (address_at (at / 16)) (port_at at) k
 
 abbrev pub learned_worth : ℕ → List Entry → ℕ → ℕ
-learned_worth share l at = worth_of_mark (marked share l (fid_at at) (address_at (at / 16)) (port_at at))
+learned_worth share l at = worth_of_mark (learned_mark share l (fid_at at) (address_at (at / 16)) (port_at at))
 
 -- An expire of what was heard at the time 0 is worth 1 where nothing went.
 abbrev pub aged : ℕ → List Entry → ℕ → ℕ → List Entry
@@ -80,9 +80,9 @@ aged_worth share l at = cond (expired 0 l == 0) 1 0
 -- The set after k of n entries had their turn.
 unfoldable pub set_after : (ℕ → List Entry → ℕ → ℕ → List Entry) → ℕ → List Entry → ℕ → ℕ → ℕ → List Entry
 set_after later share l n stride zero = l
-set_after later share l n stride (suc k) = later share (set_after later share l n stride k) (turn_of n stride k) k
+set_after later share l n stride (suc k) = later share (set_after later share l n stride k) (at_step n stride k) k
 
 -- The checksum of k entries.
 unfoldable pub sum_of : (ℕ → List Entry → ℕ → ℕ → List Entry) → (ℕ → List Entry → ℕ → ℕ) → ℕ → List Entry → ℕ → ℕ → ℕ → ℕ
 sum_of later worth share l n stride zero = 0
-sum_of later worth share l n stride (suc k) = plus (sum_of later worth share l n stride k) (worth share (set_after later share l n stride k) (turn_of n stride k))
+sum_of later worth share l n stride (suc k) = plus (sum_of later worth share l n stride k) (worth share (set_after later share l n stride k) (at_step n stride k))

@@ -1,7 +1,7 @@
 // What is timed, once a table is filled.
 ghost use Rattle.std.specs.Prelude.{◌≡◌, ℕ, List};
 ghost use Rattle.table.specs.declared.entry.Entry.{Entry};
-ghost use Rattle.table_bench.specs.Work.{aged, aged_worth, found_worth, learned, learned_worth, unaltered};
+ghost use Rattle.table_bench.specs.Work.{aged, aged_worth, found_worth, heard_again, learned_worth, unaltered};
 
 use crate::entries::{entry_at, key_at};
 use fault::mark::Mark;
@@ -45,7 +45,7 @@ impl Task for Find {
 pub struct Learn;
 
 impl Task for Learn {
-    ghost later = { λ _. learned };
+    ghost later = { λ _. heard_again };
 
     ghost worth = { λ _. learned_worth };
 

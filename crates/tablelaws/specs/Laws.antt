@@ -8,7 +8,7 @@ use Rattle.fault.specs.declared.refusal.Refusal.{Refusal}
 use Rattle.table.specs.declared.entry.Entry.{Entry}
 use Rattle.table.specs.Entries.{is_fid, entries_of, count_of}
 use Rattle.table.specs.Rising.{rises}
-use Rattle.table.specs.Calls.{answered, marked, after_learn, expired, after_expire, flushed, after_flush}
+use Rattle.table.specs.Calls.{answered, learned_mark, after_learn, expired, after_expire, flushed, after_flush}
 
 -- A find reads the entries of its own database, and changes nothing.
 pub record Finds (l k : List Entry) (f : ℕ) (a : List ℕ) (r : Result (Option ℕ) Refusal) : Type 0 where
@@ -27,7 +27,7 @@ is_new (Err e) = false
 -- what they would be if there were no others. It answers Full only where the whole share is there, and
 -- the database has one entry more exactly where the answer is New.
 pub record Learns (share : ℕ) (l k : List Entry) (f : ℕ) (a : List ℕ) (p t : ℕ) (r : Result Mark Refusal) : Type 0 where
-  pub answer : r ≡ marked share (entries_of f l) f a p
+  pub answer : r ≡ learned_mark share (entries_of f l) f a p
   pub own : entries_of f k ≡ after_learn share (entries_of f l) f a p t
   pub others : (g : ℕ) → (f ≢ g) → entries_of g k ≡ entries_of g l
   pub full : r ≡ Ok Full → count_of f l ≡ share
@@ -62,7 +62,7 @@ abbrev pub FindLaw : Type 0
 FindLaw = (l k : List Entry) (f : ℕ) (a : List ℕ) (r : Result (Option ℕ) Refusal) → k ≡ l → r ≡ answered l f a → Finds l k f a r
 
 abbrev pub LearnLaw : Type 0
-LearnLaw = (share : ℕ) (l k : List Entry) (f : ℕ) (a : List ℕ) (p t : ℕ) (r : Result Mark Refusal) → k ≡ after_learn share l f a p t → r ≡ marked share l f a p → rises l ≡ true → ((g : ℕ) → count_of g l ≤ share) → Learns share l k f a p t r
+LearnLaw = (share : ℕ) (l k : List Entry) (f : ℕ) (a : List ℕ) (p t : ℕ) (r : Result Mark Refusal) → k ≡ after_learn share l f a p t → r ≡ learned_mark share l f a p → rises l ≡ true → ((g : ℕ) → count_of g l ≤ share) → Learns share l k f a p t r
 
 abbrev pub ExpireLaw : Type 0
 ExpireLaw = (limit : ℕ) (l k : List Entry) (r : ℕ) → k ≡ after_expire limit l → r ≡ expired limit l → Expires limit l k r

@@ -1,7 +1,7 @@
 // Each function makes one or two calls of a table, whichever it is, and its contract has what follows
 // from them: first of all, that filtering databases do not touch one another.
 ghost use Rattle.std.specs.Prelude.{◌≡◌, false};
-ghost use Rattle.table.specs.Calls.{after_learn, answered, marked};
+ghost use Rattle.table.specs.Calls.{after_learn, answered, learned_mark};
 ghost use Rattle.table.specs.Entries.{has_key};
 ghost use Rattle.tablelaws.specs.Laws.{Expires, Finds, Flushes, FoundAfter, Learns};
 
@@ -55,5 +55,5 @@ pub fn learn_and_find<T: Table>(
 
 // Does nothing: its contract is the law of learn at this table.
 fn learn_law<T: Table>(table: &T, entry: Entry)
-    ensures { let share = T.share table.now in let l = T.entries table.now in let k = entry.key in Learns share l (after_learn share l k.fid k.address entry.port entry.heard) k.fid k.address entry.port entry.heard (marked share l k.fid k.address entry.port) }
+    ensures { let share = T.share table.now in let l = T.entries table.now in let k = entry.key in Learns share l (after_learn share l k.fid k.address entry.port entry.heard) k.fid k.address entry.port entry.heard (learned_mark share l k.fid k.address entry.port) }
 {}

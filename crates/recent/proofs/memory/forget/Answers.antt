@@ -4,7 +4,7 @@ use Rattle.std.proofs.lemmas.List.{get_or_default}
 use Rattle.std.proofs.lemmas.List.Edits.{map_over_more}
 use Rattle.std.proofs.lemmas.Grind.{common_steps}
 use Rattle.recent.specs.declared.remembered.Remembered.{Remembered}
-use Rattle.recent.specs.Remembered.{Computes, left, is_of, in_fid, has_port}
+use Rattle.recent.specs.Remembered.{Touches, left, is_for, in_fid, has_port}
 use Rattle.recent.proofs.Rights.{forgets_learned, forgets_flushed, forgets_expired}
 use Rattle.recent.proofs.memory.forget.Goals as goal
 use Rattle.recent.proofs.memory.forget.Goals.{then-is_some_and, else-is_some_and}
@@ -24,10 +24,10 @@ loop-slot-preserved g c = λ test h.
 pub returns : goal.returns
 returns g c =
     let xs = c.args.slots.now in
-    let e : (test : Remembered → Bool) → Computes g.F.Fn c.args.touched test → c.loop-slot.slots ≡ map (left test) xs = λ test h. let i = c.loop-slot.invariant test h in grind (arith, common_steps) in
+    let e : (test : Remembered → Bool) → Touches g.F.Fn c.args.touched test → c.loop-slot.slots ≡ map (left test) xs = λ test h. let i = c.loop-slot.invariant test h in grind (arith, common_steps) in
     record {
       slots = e;
-      learned = λ l k share f a p t q r h. forgets_learned l k xs _ share f a p t (e (is_of f a) h) q r;
+      learned = λ l k share f a p t q r h. forgets_learned l k xs _ share f a p t (e (is_for f a) h) q r;
       flushed = λ l k f q r h. forgets_flushed l k xs _ f (e (in_fid f) h) q r;
       expired = λ l k limit q r h. forgets_expired l k xs _ limit (e has_port h) q r;
     }

@@ -10,7 +10,7 @@ loop-at-init g c = (c.requires, refl)
 pub loop-at-preserved : goal.loop-at-preserved
 loop-at-preserved g c =
     let i = c.loop-at.invariant in
-    let learned = c.learn.ensures in (
-      learned.later ∙ rw (c.entry_at.ensures, i.0, i.1) (sym (filled_more _ _)),
-      learned.share ∙ i.1,
+    let heard_again = c.learn.ensures in (
+      heard_again.later ∙ rw (c.entry_at.ensures, i.0, i.1) (sym (filled_more _ _)),
+      heard_again.share ∙ i.1,
     )

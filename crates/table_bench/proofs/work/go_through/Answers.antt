@@ -1,10 +1,10 @@
 use Rattle.std.proofs.Common.{refl, ◌∙◌, sym, arith, ap}
-use Rattle.table_bench.specs.Work.{set_after, strode, sum_of, turn_of}
+use Rattle.table_bench.specs.Work.{set_after, strode, sum_of, at_step}
 use Rattle.table_bench.proofs.Steps.{set_more, sum_more, turn_more}
 use Rattle.table_bench.proofs.work.go_through.Goals as goal
 
 pub loop-before-init : goal.loop-before-init
-unfolding set_after sum_of turn_of
+unfolding set_after sum_of at_step
 loop-before-init g c = record { set = refl; share = refl; turn = refl; sum = refl; below = omega (arith, c.args.work.now.load.some) }
 
 pub loop-before-preserved : goal.loop-before-preserved

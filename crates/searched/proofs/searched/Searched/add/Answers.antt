@@ -6,7 +6,7 @@ use Rattle.table.specs.Entries.{is_fid, count_of, lookup}
 use Rattle.table.specs.Records.{Orderly}
 use Rattle.table.specs.Rising.{insert, rising}
 use Rattle.table.proofs.Room.{fewer}
-use Rattle.table.proofs.Records.{holds_none, orderly_in}
+use Rattle.table.proofs.Records.{has_pair_none, orderly_in}
 use Rattle.table.proofs.Rising.{look_rising, count_rising, rising_in}
 use Rattle.searched.specs.Records.{taken}
 use Rattle.searched.specs.Sets.{orderly}
@@ -49,4 +49,4 @@ pub returns-clause-later : goal.returns-clause-later
 returns-clause-later c =
     let l = taken c.args.self.now.rows in
     let e = c.args.entry in
-    ap rising c.push.ensures.later ∙ rising_in l [] e (holds_none l e.key.fid e.key.address (none l e c.requires.absent)) ∙ ap (λ m. insert e (rising m)) (append-nil l)
+    ap rising c.push.ensures.later ∙ rising_in l [] e (has_pair_none l e.key.fid e.key.address (none l e c.requires.absent)) ∙ ap (λ m. insert e (rising m)) (append-nil l)
