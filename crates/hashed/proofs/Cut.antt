@@ -1,9 +1,9 @@
 -- The stretches of a table: each is cut out of the records, and may be put back altered.
-use Rattle.std.proofs.Common.{◌≡◌, ℕ, zero, suc, ◌+◌, ◌-◌, ◌*◌, ◌<◌, ◌≤◌, true, ◌⊎◌, List, [], ◌++◌, map, length, get_or, take, drop, set, replicate, sym, ap, ◌∙◌, subst, ⊎_elim, zero-mul, add-one, arith, take-add}
+use Rattle.std.proofs.Common.{◌≡◌, ℕ, zero, suc, ◌+◌, ◌-◌, ◌*◌, ◌<◌, ◌≤◌, true, ◌⊎◌, List, [], ◌++◌, length, get_or, take, drop, set, replicate, sym, ap, ◌∙◌, subst, ⊎_elim, zero-mul, add-one, arith, take-add}
 use borrow.Rule.Slice.PartMut.{put_mid}
 use Rattle.std.proofs.lemmas.Nat.{mul-le}
 use Rattle.std.proofs.lemmas.List.Elements.{filter-append}
-use Rattle.std.proofs.lemmas.List.{length-drop, length-take-le, take-append-drop, take_all, drop-drop, get_or-set_same, get_or-set_other, drop-map, take-map, get_or-map, length-map, get_or-replicate}
+use Rattle.std.proofs.lemmas.List.{length-drop, length-take-le, take-append-drop, take_all, drop-drop, get_or-set_same, get_or-set_other, drop-replicate, take-replicate, length-replicate, get_or-replicate}
 use Rattle.std.proofs.lemmas.Slice.{between_is, take-put_mid_below, drop-put_mid, between-put_mid}
 use Rattle.std.proofs.lemmas.Bool.Decides.{nat_tests}
 use Rattle.std.proofs.lemmas.Bool.{cases_order, cases_eq}
@@ -14,7 +14,6 @@ use Rattle.slots.specs.declared.measure.Bounds.{Bounds}
 use Rattle.slots.specs.Measure.{empty_bounds}
 use Rattle.hashed.specs.declared.hashed.Hashed.{Hashed}
 use Rattle.hashed.specs.Stretch.{Kept}
-use Rattle.slots.specs.Sweep.{cleared}
 use Rattle.hashed.specs.Layout.{start_of, stretch_of, Laid}
 use Rattle.hashed.proofs.Held.{all_free}
 use Rattle.hashed.proofs.Kept.{kept_count, kept_free}
@@ -128,17 +127,18 @@ laid_put s g ys b lt n le kept j jl =
 
 -- records that were cleared
 
-cleared_free : (zs : List Entry) (i : ℕ) → i < length (map cleared zs) → is_free (get_or (map cleared zs) i free_entry) ≡ true
-cleared_free zs i lt = ap is_free (get_or-map cleared zs i free_entry free_entry (omega (arith, length-map zs cleared)))
+cleared_free : (n i : ℕ) → i < length (replicate n free_entry) → is_free (get_or (replicate n free_entry) i free_entry) ≡ true
+cleared_free n i lt = ap is_free (get_or-replicate n i free_entry free_entry (omega (arith, length-replicate n free_entry)))
 
-pub held_cleared : (zs ys : List Entry) → ys ≡ map cleared zs → held_of ys ≡ []
-held_cleared zs ys e = ap held_of e ∙ all_free (map cleared zs) (cleared_free zs)
+pub held_cleared : (n : ℕ) (ys : List Entry) → ys ≡ replicate n free_entry → held_of ys ≡ []
+held_cleared n ys e = ap held_of e ∙ all_free (replicate n free_entry) (cleared_free n)
 
-pub kept_cleared : (f : ℕ) (zs ys : List Entry) → 1 ≤ f → ys ≡ map cleared zs → Kept f ys empty_bounds
-kept_cleared f zs ys lo e = subst (λ l. Kept f l empty_bounds) (sym e) (kept_free f (map cleared zs) lo (cleared_free zs))
+pub kept_cleared : (f n : ℕ) (ys : List Entry) → 1 ≤ f → ys ≡ replicate n free_entry → Kept f ys empty_bounds
+kept_cleared f n ys lo e = subst (λ l. Kept f l empty_bounds) (sym e) (kept_free f (replicate n free_entry) lo (cleared_free n))
 
-pub laid_cleared : (share : ℕ) (zs ys : List Entry) (b : Bounds) → ys ≡ map cleared zs → b ≡ empty_bounds → Laid share ys (replicate 16 b)
-laid_cleared share zs ys b e none g lt =
+pub laid_cleared : (share n : ℕ) (ys : List Entry) (b : Bounds) → ys ≡ replicate n free_entry → n ≡ 32 * share → b ≡ empty_bounds → Laid share ys (replicate 16 b)
+laid_cleared share n ys b e size none g lt =
     let s = start_of share g in
     let k = s + 2 * share - s in
-    subst (λ b. Kept (g + 1) (stretch_of share g ys) b) (sym (get_or-replicate 16 g b empty_bounds lt ∙ none)) (kept_cleared (g + 1) (take k (drop s zs)) (stretch_of share g ys) (omega arith) (ap (stretch_of share g) e ∙ ap (take k) (drop-map cleared s zs) ∙ take-map cleared k (drop s zs)))
+    let w : k ≤ n - s = omega (arith, start_below share g lt) in
+    subst (λ b. Kept (g + 1) (stretch_of share g ys) b) (sym (get_or-replicate 16 g b empty_bounds lt ∙ none)) (kept_cleared (g + 1) k (stretch_of share g ys) (omega arith) (ap (stretch_of share g) e ∙ ap (take k) (drop-replicate s n free_entry) ∙ take-replicate k (n - s) free_entry w))

@@ -1,5 +1,5 @@
-// The table: a stretch of records for each filtering database. A call for one database looks at no
-// record of another. `find` and `learn` are always inlined down to the search (`slots::probe` says why).
+//! The table: a stretch of records for each filtering database. A call for one database looks at no
+//! record of another. `find` and `learn` are always inlined down to the search (`slots::probe` says why).
 ghost use Rattle.std.specs.Prelude.{◌≡◌, ◌+◌, ◌*◌, ◌≤◌, filter, length};
 ghost use Rattle.std.proofs.Props.{props};
 ghost use Rattle.table.specs.Records.{Orderly, held_of};
@@ -18,7 +18,8 @@ use table::entry::{Entry, Key};
 use table::fid::Fid;
 use table::table::Table;
 
-// Twice as many records as entries for each filtering database, and what is known of them.
+/// A table in 32 records for each entry of the share, which is 1 to 256: twice as many as entries for each
+/// filtering database. What is lent beside them it never holds.
 // The records stay one slice beside the bounds: sixteen slices of it would have to be cut and named one
 // by one, since a closure that cuts the next from what is left says nothing of what it gave.
 #[derive(Drop)]
@@ -33,18 +34,32 @@ pub struct Hashed<'a> {
 }
 
 impl<'a> Hashed<'a> {
-    ghost use Rattle.std.specs.Prelude.{[], Ok};
-    ghost use Rattle.table.specs.Entries.{lookup};
+    ghost use Rattle.std.specs.Prelude.{[], Ok, replicate};
+    ghost use Rattle.table.specs.Entries.{free_entry, lookup};
     ghost use Rattle.table.specs.Calls.{after_flush, after_learn, entry_port, flushed, learned_mark};
+    ghost use Rattle.slots.specs.Measure.{empty_bounds};
     ghost use Rattle.hashed.specs.Sets.{set_of};
 
-    // An empty table in 32 records for each entry of the share. Records beyond these are left alone.
+    /// An empty table in the records that were checked for it. It frees them all.
     pub fn new(checked: Checked<'a, 32>) -> Hashed<'a>
         ensures empty { set_of result ≡ [] }
         ensures share { result.share ≡ checked.entry.share }
+        ensures free { result.records.now ≡ replicate (32 * result.share) free_entry }
+        ensures bounds { result.bounds ≡ replicate 16 empty_bounds }
     {
         let (share, records) = checked.into_parts();
-        let records = &mut records[..32 * share];
+        Hashed::in_records(share, records)
+    }
+
+    // An empty table in so many records, which it frees.
+    fn in_records(share: usize, records: &'a mut [Entry]) -> Hashed<'a>
+        requires small { share ≤ 256 }
+        requires long { length records.old ≡ 32 * share }
+        ensures empty { set_of result ≡ [] }
+        ensures share { result.share ≡ share }
+        ensures free { result.records.now ≡ replicate (32 * share) free_entry }
+        ensures bounds { result.bounds ≡ replicate 16 empty_bounds }
+    {
         clear(records);
         Hashed {
             records,

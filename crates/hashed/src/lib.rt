@@ -1,4 +1,4 @@
-// A filtering table whose records are placed by a hash, in a stretch for each filtering database.
+//! A filtering table whose records are placed by a hash, in a stretch for each filtering database.
 #![tactic(auto)]
 
 pub mod hashed;

@@ -1,4 +1,4 @@
-// The places of the filtering databases.
+//! The places of the filtering databases.
 ghost use Rattle.std.specs.Prelude.{◌≡◌, ◌+◌, ◌<◌};
 
 use table::fid::Fid;

@@ -1,6 +1,6 @@
-// The calls on the records of one filtering database. Records and bounds are lent side by side: `find`
-// is lent them to read and `learn` to write, so a struct of both would have to be declared twice. Both are
-// always inlined (`slots::probe` says why).
+//! The calls on the records of one filtering database. Records and bounds are lent side by side: `find`
+//! is lent them to read and `learn` to write, so a struct of both would have to be declared twice. Both are
+//! always inlined (`slots::probe` says why).
 ghost use Rattle.std.specs.Prelude.{◌≡◌, ◌*◌, true, length, nat_lt};
 ghost use Rattle.table.specs.Entries.{lookup};
 ghost use Rattle.table.specs.Records.{distinct, held_of};

@@ -1,4 +1,4 @@
-// A filtering table that searches its records from the first.
+//! A filtering table that searches its records from the first.
 #![tactic(auto)]
 
 mod rows;

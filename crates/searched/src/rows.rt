@@ -1,4 +1,4 @@
-// The records of a searched table: the first `used` of them hold entries, in the order in which they came.
+//! The records of a searched table: the first `used` of them hold entries, in the order in which they came.
 ghost use Rattle.std.specs.Prelude.{◌≤◌, length};
 
 use table::entry::{Entry, Key};

@@ -1,4 +1,4 @@
-// The table itself: every call is a search over the records that are in use.
+//! The table itself: every call is a search over the records that are in use.
 ghost use Rattle.std.specs.Prelude.{ℕ, ◌≡◌, ◌≤◌, ◌*◌, true, length};
 ghost use Rattle.table.specs.Entries.{count_of, fids_in_range};
 ghost use Rattle.table.specs.Records.{distinct};
@@ -12,6 +12,7 @@ use table::entry::{Entry, Key};
 use table::fid::Fid;
 use table::table::Table;
 
+/// A table in 16 records for each entry of the share, which is 1 to 256. What is lent beside them it never holds.
 #[derive(Drop)]
 pub struct Searched<'a> {
     rows: Rows<'a>,
@@ -19,7 +20,7 @@ pub struct Searched<'a> {
     // No entry was heard before this, so that `expire` need not look where nothing is due. It is a bound,
     // and with no entry the end of time is one: an Option would only add a case to each `min`.
     oldest: u64,
-    pub ghost room: { 16 * share ≤ length rows.all.now },
+    pub ghost long: { length rows.all.now ≡ 16 * share },
     pub ghost ranged: { fids_in_range (taken rows) ≡ true },
     pub ghost apart: { distinct (taken rows) ≡ true },
     pub ghost fair: { (f : ℕ) → count_of f (taken rows) ≤ share },
@@ -35,15 +36,14 @@ impl<'a> Searched<'a> {
     ghost use Rattle.searched.specs.Records.{Keeps};
     ghost use Rattle.searched.specs.Sets.{after_renewal, renewed, set_of};
 
-    // An empty table in 16 records for each entry of the share. Records beyond these are left alone.
+    /// An empty table in the records that were checked for it. It frees them all.
     pub fn new(checked: Checked<'a, 16>) -> Searched<'a>
         ensures empty { set_of result ≡ [] }
         ensures share { result.share ≡ checked.entry.share }
         ensures oldest { result.oldest ≡ oldest_of [] }
         ensures free { result.rows.all.now ≡ replicate (16 * result.share) free_entry }
     {
-        let (share, records) = checked.into_parts();
-        let all = &mut records[..16 * share];
+        let (share, all) = checked.into_parts();
         all.fill(Entry::free());
         Searched {
             rows: Rows { all, used: 0 },

@@ -1,3 +1,2 @@
 pub mod Probing
 pub mod Measured
-pub mod Cleared

@@ -1,4 +1,4 @@
-// Where an entry belongs among so many records, and places counted from there, going round.
+//! Where an entry belongs among so many records, and places counted from there, going round.
 ghost use Rattle.std.specs.Prelude.{◌≡◌, ◌<◌, ◌≤◌};
 ghost use Rattle.slots.specs.Hash.{hash_of, home_of, gap};
 

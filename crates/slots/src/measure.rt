@@ -1,22 +1,24 @@
-// What is known of a stretch of records without looking at them.
+//! What is known of a stretch of records without looking at them.
 ghost use Rattle.std.specs.Prelude.{◌≡◌, ◌+◌, ◌<◌, ◌≤◌, nat_le};
 ghost use Rattle.slots.specs.Measure.{empty_bounds, measured, with_heard, with_new, with_next, with_record};
 
 use crate::hash::{home, steps_to};
 use table::entry::Entry;
 
+/// What a table keeps beside a stretch. It is as true as whoever keeps it: a search trusts `reach`.
 #[derive(Clone, Copy, PartialEq, Eq, Debug, Drop)]
 pub struct Bounds {
-    // How many entries there are.
+    /// How many entries there are.
     pub held: usize,
-    // A search that passes this many records from an entry's home on has passed the entry.
+    /// A search that passes this many records from an entry's home on has passed the entry.
     pub reach: usize,
-    // No entry was heard before this time. With no entry the end of time is a true bound, and no stand-in.
+    /// No entry was heard before this time (in milliseconds). With no entry the end of time is a true bound, and no
+    /// stand-in.
     pub oldest: u64,
 }
 
 impl Bounds {
-    // The bounds of a stretch that has no entry. No `Default`, as the end of time is no number's default.
+    /// The bounds of a stretch that has no entry. No `Default`, as the end of time is no number's default.
     pub fn empty() -> Bounds
         ensures { result ≡ empty_bounds }
     {
@@ -27,7 +29,7 @@ impl Bounds {
         }
     }
 
-    // The bounds of a stretch, from its records.
+    /// The bounds of a stretch, from its records.
     pub fn of(records: &[Entry]) -> Bounds
         ensures { result ≡ measured records.now }
     {
@@ -53,15 +55,15 @@ impl Bounds {
         self.with_new(steps_to(n, home(n, entry.key), at), entry.heard)
     }
 
-    // Whether an entry may have been heard at the limit or before it.
+    /// Whether an entry may have been heard at the limit (in milliseconds) or before it.
     pub fn is_due(self, limit: u64) -> bool
         ensures { result ≡ nat_le self.oldest limit }
     {
         self.oldest <= limit
     }
 
-    // The bounds with one entry more, so many steps past its home. A number that would be too large stays
-    // at the largest one.
+    /// The bounds with one entry more, so many steps past its home. A number that would be too large stays
+    /// at the largest one.
     pub fn with_new(self, steps: usize, heard: u64) -> Bounds
         ensures small { self.held < usize.MAX → steps < usize.MAX → result ≡ with_new self steps heard }
         ensures exact { result ≡ with_next self steps heard }
@@ -73,7 +75,7 @@ impl Bounds {
         }
     }
 
-    // The bounds with an entry heard at another time.
+    /// The bounds with an entry heard at another time.
     pub fn with_heard(self, heard: u64) -> Bounds
         ensures { result ≡ with_heard self heard }
     {

@@ -1,9 +1,9 @@
-// A search begins at the home of a pair of database and address and goes round. Nothing marks its end:
-// a record that was freed may lie before the entry, so the caller says how far entries reach.
-//
-// The search for a pair is always inlined, and so is what leads to it in a hashed table: a key that is handed
-// over in memory is written in small parts and read in large ones, and for that a processor waits. One call
-// on the way that is not inlined takes most of the gain (docs/CHECKING.md has the times).
+//! A search begins at the home of a pair of database and address and goes round. Nothing marks its end:
+//! a record that was freed may lie before the entry, so the caller says how far entries reach.
+//!
+//! The search for a pair is always inlined, and so is what leads to it in a hashed table: a key that is handed
+//! over in memory is written in small parts and read in large ones, and for that a processor waits. One call
+//! on the way that is not inlined takes most of the gain (docs/CHECKING.md has the times).
 ghost use Rattle.std.specs.Prelude.{◌≡◌, ◌+◌, ◌^◌, ◌<◌, Bool, IfSome, min, length, take, position};
 ghost use Rattle.table.specs.declared.entry.Entry.{Entry};
 ghost use Rattle.table.specs.Entries.{has_key, is_free};
@@ -13,7 +13,7 @@ ghost use Rattle.slots.specs.Probe.{Found};
 use crate::hash::home;
 use table::entry::{Entry, Key};
 
-// A record, and how many steps it is past the home from which it was found.
+/// A record, by its index, and how many steps it is past the home from which it was found.
 #[derive(Clone, Copy, PartialEq, Eq, Debug, Drop)]
 pub struct Spot {
     pub at: usize,
@@ -90,7 +90,7 @@ fn search<T: Sought>(records: &[Entry], reach: usize, key: Key, sought: &T) -> O
     Some(gone_round(after.len(), at))
 }
 
-// The record of a pair, among the first `reach` records from its home on.
+/// The record of a pair, among the first `reach` records from its home on. A pair that lies farther is not found.
 #[inline(always)]
 pub fn place(records: &[Entry], reach: usize, key: Key) -> Option<Spot>
     ensures { Found (has_key key.fid key.address) records.now (home_of (length records.now) key.fid key.address) (min reach (length records.now)) result }
@@ -98,7 +98,7 @@ pub fn place(records: &[Entry], reach: usize, key: Key) -> Option<Spot>
     search(records, reach, key, &key)
 }
 
-// The first free record from the home of a pair on.
+/// The first free record from the home of a pair on, or none where every record holds an entry.
 pub fn vacant(records: &[Entry], key: Key) -> Option<Spot>
     ensures { Found is_free records.now (home_of (length records.now) key.fid key.address) (length records.now) result }
 {

@@ -1,6 +1,7 @@
-// Freeing records where they lie. Since no search for a pair ends at a free record, nothing has to move.
-ghost use Rattle.std.specs.Prelude.{◌≡◌, map};
-ghost use Rattle.slots.specs.Sweep.{heard_later, cleared};
+//! Freeing records where they lie. Since no search for a pair ends at a free record, nothing has to move.
+ghost use Rattle.std.specs.Prelude.{◌≡◌, length, map, replicate};
+ghost use Rattle.table.specs.Entries.{free_entry};
+ghost use Rattle.slots.specs.Sweep.{heard_later};
 
 use table::entry::Entry;
 
@@ -15,7 +16,7 @@ fn sift(limit: u64, entry: Entry) -> Entry
     }
 }
 
-// Frees the records that were heard at the limit or before it.
+/// Frees the records that were heard at the limit (in milliseconds) or before it, and leaves the others as they are.
 pub fn sweep(records: &mut [Entry], limit: u64)
     ensures { records.new ≡ map (heard_later limit) records.old }
 {
@@ -24,10 +25,9 @@ pub fn sweep(records: &mut [Entry], limit: u64)
     }
 }
 
-// Frees every record.
-#[tactic(auto, using(crate::proofs::Cleared::all_free))]
+/// Frees every record.
 pub fn clear(records: &mut [Entry])
-    ensures { records.new ≡ map cleared records.old }
+    ensures { records.new ≡ replicate (length records.old) free_entry }
 {
     records.fill(Entry::free());
 }

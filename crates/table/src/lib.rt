@@ -1,4 +1,4 @@
-// Filtering tables: what an entry is, what is asked before a table is made, and what every table does.
+//! Filtering tables: what an entry is, what is asked before a table is made, and what every table does.
 #![tactic(auto)]
 
 pub mod check;

@@ -1,4 +1,4 @@
-// The kinds of tables, each made in records on the stack for the largest share.
+//! The kinds of tables, each made in records on the stack for the largest share.
 ghost use Rattle.std.specs.Prelude.{◌≡◌, ◌≤◌, [], length};
 ghost use Rattle.table_bench.specs.Task.{performed};
 ghost use Rattle.searched.specs.Sets.{set_of};
@@ -21,7 +21,7 @@ fn searched(records: &mut [Entry]) -> Searched<'_>
     ensures share { result.share ≡ 256 }
 {
     match check(256, records) {
-        Ok(checked) => Searched::new(checked),
+        Ok((checked, _)) => Searched::new(checked),
         Err(_) => unreachable!(),
     }
 }
@@ -32,7 +32,7 @@ fn hashed(records: &mut [Entry]) -> Hashed<'_>
     ensures share { result.share ≡ 256 }
 {
     match check(256, records) {
-        Ok(checked) => Hashed::new(checked),
+        Ok((checked, _)) => Hashed::new(checked),
         Err(_) => unreachable!(),
     }
 }

@@ -1,5 +1,5 @@
-// A find right after a learn, at every table: for the pair itself, for the same address in another
-// database, and for another address of the same one.
+//! A find right after a learn, at every table: for the pair itself, for the same address in another
+//! database, and for another address of the same one.
 use crate::kinds::{hashed, searched};
 use fault::mark::Mark;
 use recent::recent::Recent;

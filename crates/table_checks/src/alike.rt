@@ -1,5 +1,5 @@
-// A long run of calls by chance, the same ones at two tables, whose answers must agree call by call.
-// Few addresses, few databases and a share of three let every kind of answer come often.
+//! A long run of calls by chance, the same ones at two tables, whose answers must agree call by call.
+//! Few addresses, few databases and a share of three let every kind of answer come often.
 use crate::calls::{Answer, Call, ask};
 use crate::kinds::{hashed, searched};
 use fault::mark::Mark;

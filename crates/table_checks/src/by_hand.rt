@@ -1,5 +1,5 @@
-// One run of calls with what each must answer, worked out from the rules, at every table. A database
-// has room for three addresses. The times in the comments are those at which an address was heard.
+//! One run of calls with what each must answer, worked out from the rules, at every table. A database
+//! has room for three addresses. The times in the comments are those at which an address was heard.
 use crate::calls::Answer::*;
 use crate::calls::Call::*;
 use crate::calls::{Answer, Call, ask};

@@ -1,5 +1,5 @@
-// The calls of a table and what they answer, as data. They are made through the functions that carry the
-// laws, so that these are used at every table.
+//! The calls of a table and what they answer, as data. They are made through the functions that carry the
+//! laws, so that these are used at every table.
 use fault::mark::Mark;
 use fault::refusal::Refusal;
 use table::entry::{Entry, Key};

@@ -1,4 +1,4 @@
-// Tests of the filtering tables: what each call answers, tried at all of them alike.
+//! Tests of the filtering tables: what each call answers, tried at all of them alike.
 #![tactic(auto)]
 
 #[cfg(test)]

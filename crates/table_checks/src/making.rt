@@ -1,7 +1,9 @@
-// What is asked before a table is made, and what a made table has room for.
+//! What is asked before a table is made, and what a made table has room for.
 use crate::calls::{Answer, Call, ask, numbered};
-use crate::kinds::{hashed, searched};
+use crate::kinds::{divided, hashed, searched};
 use fault::mark::Mark;
+use hashed::hashed::Hashed;
+use searched::searched::Searched;
 use std::process::Abort;
 use std::test::Fail;
 use table::check::check;
@@ -18,7 +20,7 @@ fn refuses<const RECORDS: u16>(
     match check::<RECORDS>(share, records) {
         Err(refused) => {
             assert_eq!(rt; refused.refusal.number(), number);
-            check_marked(rt, refused.records);
+            check_filled(rt, refused.records);
             Ok(())
         },
         Ok(_) => Err(Fail::new("nothing was refused")),
@@ -26,7 +28,7 @@ fn refuses<const RECORDS: u16>(
 }
 
 // A record with something in it, so that it shows where it is altered.
-fn marked() -> Entry {
+fn filled() -> Entry {
     Entry {
         key: Key {
             fid: 3,
@@ -37,9 +39,9 @@ fn marked() -> Entry {
     }
 }
 
-fn check_marked(rt: &impl Abort, records: &[Entry]) {
+fn check_filled(rt: &impl Abort, records: &[Entry]) {
     for record in records {
-        assert_eq!(rt; *record, marked());
+        assert_eq!(rt; *record, filled());
     }
 }
 
@@ -63,7 +65,7 @@ fn holds_its_share<T: Table>(rt: &impl Abort, table: &mut T, share: u16) -> Resu
 // The share is asked about first, whatever the memory.
 #[test]
 fn shares_out_of_range(rt: HostRuntime) -> Result<(), Fail> {
-    let mut records = [marked(); 48];
+    let mut records = [filled(); 48];
     for share in [0, 257, 65535] {
         refuses::<16>(&rt, share, &mut records, 25)?;
         refuses::<32>(&rt, share, &mut records, 25)?;
@@ -83,7 +85,7 @@ fn asks_for<const RECORDS: u16>(
     assert!(rt; size > 0);
     refuses::<RECORDS>(rt, share, &mut records[0..size - 1], 27)?;
     refuses::<RECORDS>(rt, share, &mut records[0..0], 27)?;
-    check_marked(rt, records);
+    check_filled(rt, records);
     Ok(())
 }
 
@@ -99,23 +101,27 @@ fn suits_hashed(rt: &impl Abort, records: &mut [Entry], share: u16) -> Result<()
 
 #[test]
 fn memory_for_searched_tables(rt: HostRuntime) -> Result<(), Fail> {
-    suits_searched(&rt, &mut [marked(); 16], 1)?;
-    suits_searched(&rt, &mut [marked(); 4096], 256)
+    suits_searched(&rt, &mut [filled(); 16], 1)?;
+    suits_searched(&rt, &mut [filled(); 4096], 256)
 }
 
 #[test]
 fn memory_for_hashed_tables(rt: HostRuntime) -> Result<(), Fail> {
-    suits_hashed(&rt, &mut [marked(); 32], 1)?;
-    suits_hashed(&rt, &mut [marked(); 8192], 256)
+    suits_hashed(&rt, &mut [filled(); 32], 1)?;
+    suits_hashed(&rt, &mut [filled(); 8192], 256)
 }
 
-// Records beyond those that the share asks for stay as they are.
+// One memory serves two tables: what the first does not take is lent to the second.
 #[test]
-fn records_left_over(rt: HostRuntime) -> Result<(), Fail> {
-    let mut records = [marked(); 40];
-    holds_its_share(&rt, &mut searched(2, &mut records)?, 2)?;
-    check_marked(&rt, &records[32..40]);
-    holds_its_share(&rt, &mut hashed(1, &mut records)?, 1)?;
-    check_marked(&rt, &records[32..40]);
+fn two_tables_in_one_memory(rt: HostRuntime) -> Result<(), Fail> {
+    let mut records = [filled(); 68];
+    let (checked, rest) = divided(2, &mut records)?;
+    let mut few = Searched::new(checked);
+    let (checked, rest) = divided(1, rest)?;
+    let mut fewer = Hashed::new(checked);
+    holds_its_share(&rt, &mut few, 2)?;
+    holds_its_share(&rt, &mut fewer, 1)?;
+    assert_eq!(rt; rest.len(), 4);
+    check_filled(&rt, rest);
     Ok(())
 }

@@ -1,5 +1,5 @@
-// Which answers a recent list remembers. No contract says so: only the finds that reach the table below
-// tell, and these are counted here.
+//! Which answers a recent list remembers. No contract says so: only the finds that reach the table below
+//! tell, and these are counted here.
 use crate::calls::{Call, ask, numbered};
 use crate::kinds::searched;
 use fault::mark::Mark;

@@ -30,7 +30,7 @@ push-requires c =
     let s = c.args.self.now in
     let l = taken s.rows in
     let f = c.args.entry.key.fid in
-    omega (arith, s.room, length-take-le s.rows.used s.rows.all.now s.rows.sits, fewer l s.share f (orderly s) c.requires.ranged (less s.share l f (orderly s) c.requires.room))
+    omega (arith, s.long, length-take-le s.rows.used s.rows.all.now s.rows.sits, fewer l s.share f (orderly s) c.requires.ranged (less s.share l f (orderly s) c.requires.room))
 
 pub invariant_of-self : goal.invariant_of-self
 invariant_of-self c =
@@ -38,7 +38,7 @@ invariant_of-self c =
     let w = c.push.ensures.later in
     let o : Orderly s.share (taken c.push.new.self) = subst (Orderly s.share) (sym w) (more s.share (taken s.rows) c.args.entry (orderly s) c.requires.ranged c.requires.absent c.requires.room) in
     record {
-      room = omega (arith, c.push.ensures.room, s.room);
+      long = omega (arith, c.push.ensures.room, s.long);
       ranged = o.ranged;
       apart = o.apart;
       fair = o.fair;

@@ -21,7 +21,7 @@ invariant_of-self c =
     let w = c.write.ensures.later ∙ written_at (taken s.rows) e.key.fid e.key.address e.port e.heard c.in_ok-at.was c.place.ensures in
     let o : Orderly s.share (taken c.write.new.self) = orderly_written s.share (taken s.rows) (taken c.write.new.self) e.key.fid e.key.address e.port e.heard (orderly s) w in
     record {
-      room = omega (arith, c.write.ensures.room, s.room);
+      long = omega (arith, c.write.ensures.room, s.long);
       ranged = o.ranged;
       apart = o.apart;
       fair = o.fair;

@@ -12,7 +12,7 @@ invariant_of-self g c =
     let s = c.args.self.now in
     let o : Orderly s.share (taken c.retain-gone.new.self) = orderly_kept s.share g.test (taken s.rows) (taken c.retain-gone.new.self) (orderly s) c.retain-gone.ensures.later in
     record {
-      room = omega (arith, c.retain-gone.ensures.room, s.room);
+      long = omega (arith, c.retain-gone.ensures.room, s.long);
       ranged = o.ranged;
       apart = o.apart;
       fair = o.fair;
