@@ -1,7 +1,8 @@
 -- The laws of each call, from what it answers and leaves.
-use Rattle.std.proofs.Common.{◌≡◌, ℕ, ◌+◌, Bool, true, false, cond, eqb, ltb, List, [], ◌∷◌, length, Some, None, Ok, Err, Option, Result, Ordering, Less, Equal, Greater, sym, refl, ap, ◌∙◌, subst, arith}
+use Rattle.std.proofs.Common.{◌≡◌, ℕ, ◌+◌, ◌≤◌, Bool, true, false, cond, eqb, ltb, List, [], ◌∷◌, length, Some, None, Ok, Err, Option, Result, Ordering, Less, Equal, Greater, sym, refl, ap, ◌∙◌, subst, arith}
 use Rattle.std.specs.Ordering.{is_eq, is_lt}
 use Rattle.std.proofs.lemmas.Bool.{and_parts, and_from, ltb-false, eq-eqb, both_ways, false_from_ne_true, true≢false}
+use Rattle.fault.specs.declared.mark.Mark.{Mark}
 use Rattle.fault.specs.declared.mark.Mark.TheVariants.{New, Known, Moved, Full}
 use Rattle.fault.specs.declared.refusal.Refusal.{Refusal}
 use Rattle.fault.specs.declared.refusal.Refusal.TheVariants.{FidOutOfRange}
@@ -16,19 +17,19 @@ use Rattle.table.proofs.Records.{key_is, key_of, has_pair_none, has_pair_some, c
 use Rattle.table.proofs.Rising.{is_less, less_not, before_far, look_insert, count_insert}
 use Rattle.table.proofs.Views.{view_learn, view_flush, view_expire, own_answer, own_mark, own_learn, own_flushed, own_flush, flush_none}
 use Rattle.table.proofs.After.{marked_at, full_at, answer_other, expired_rest}
-use Rattle.tablelaws.specs.Laws.{Finds, is_new, Expires, Flushes, FoundAfter, FindLaw, LearnLaw, ExpireLaw, FlushLaw}
+use Rattle.tablelaws.specs.Laws.{Finds, is_new, Expires, Flushes, FoundAfter, Learns}
 
-pub finds : FindLaw
+pub finds : (l k : List Entry) (f : ℕ) (a : List ℕ) (r : Result (Option ℕ) Refusal) → k ≡ l → r ≡ answered l f a → Finds l k f a r
 finds l k f a r e h = record { answer = h ∙ own_answer f a l; same = e }
 
-pub expires : ExpireLaw
+pub expires : (limit : ℕ) (l k : List Entry) (r : ℕ) → k ≡ after_expire limit l → r ≡ expired limit l → Expires limit l k r
 expires limit l k r e h = record {
   gone = omega (arith, h, ap length e, expired_rest limit l);
   each = λ g. ap (entries_of g) e ∙ view_expire g limit l;
   fewer = λ g. omega (arith, ap (count_of g) e, count_kept (heard_after limit) g l);
 }
 
-pub flushes : FlushLaw
+pub flushes : (l k : List Entry) (f : ℕ) (r : Result ℕ Refusal) → k ≡ after_flush l f → r ≡ flushed l f → Flushes l k f r
 flushes l k f r e h = record {
   answer = h ∙ own_flushed l f;
   own = ap (entries_of f) e ∙ own_flush l f;
@@ -77,7 +78,7 @@ count_learned share l f a p t r = elim (is_fid f) as (λ b. count_of f (cond b (
     at None h = room (ltb (count_of f l) share) h
     at (Some e) h = old (eqb e.port p) (count_over f (new_entry f a p t) l r (has_pair_some l f a e h))
 
-pub learns : LearnLaw
+pub learns : (share : ℕ) (l k : List Entry) (f : ℕ) (a : List ℕ) (p t : ℕ) (r : Result Mark Refusal) → k ≡ after_learn share l f a p t → r ≡ learned_mark share l f a p → rises l ≡ true → ((g : ℕ) → count_of g l ≤ share) → Learns share l k f a p t r
 learns share l k f a p t r e h up fair = record {
   answer = h ∙ own_mark share l f a p;
   own = ap (entries_of f) e ∙ own_learn share l f a p t up;

@@ -3,12 +3,11 @@
 -- of that database alone and changes them alone, so that databases cannot be told by one another.
 use Rattle.std.specs.Prelude.{◌≡◌, ℕ, ◌+◌, ◌≤◌, Bool, true, false, cond, List, [], length, Some, None, Ok, Err, Option, Result, ◌≢◌}
 use Rattle.fault.specs.declared.mark.Mark.{Mark}
-use Rattle.fault.specs.declared.mark.Mark.TheVariants.{New, Known, Moved, Full, Unlearned}
+use Rattle.fault.specs.declared.mark.Mark.TheVariants.{New, Full, Unlearned}
 use Rattle.fault.specs.declared.refusal.Refusal.{Refusal}
 use Rattle.table.specs.declared.entry.Entry.{Entry}
 use Rattle.table.specs.Entries.{is_fid, entries_of, count_of}
-use Rattle.table.specs.Rising.{rises}
-use Rattle.table.specs.Calls.{answered, learned_mark, after_learn, expired, after_expire, flushed, after_flush}
+use Rattle.table.specs.Calls.{answered, learned_mark, after_learn, after_expire, flushed, after_flush}
 
 -- A find reads the entries of its own database, and changes nothing.
 pub record Finds (l k : List Entry) (f : ℕ) (a : List ℕ) (r : Result (Option ℕ) Refusal) : Type 0 where
@@ -17,11 +16,7 @@ pub record Finds (l k : List Entry) (f : ℕ) (a : List ℕ) (r : Result (Option
 
 abbrev pub is_new : Result Mark Refusal → Bool
 is_new (Ok New) = true
-is_new (Ok Known) = false
-is_new (Ok Moved) = false
-is_new (Ok Full) = false
-is_new (Ok Unlearned) = false
-is_new (Err e) = false
+is_new _ = false
 
 -- A learn reads and changes the entries of its own database: what it leaves of them, and its answer, are
 -- what they would be if there were no others. It answers Full only where the whole share is there, and
@@ -49,23 +44,7 @@ pub record Flushes (l k : List Entry) (f : ℕ) (r : Result ℕ Refusal) : Type 
 
 -- What find answers for the pair that was just learned: the new port, or none where there was no room.
 abbrev pub FoundAfter : Result Mark Refusal → ℕ → Result (Option ℕ) Refusal → Type 0
-FoundAfter (Ok New) p o = o ≡ Ok (Some p)
-FoundAfter (Ok Known) p o = o ≡ Ok (Some p)
-FoundAfter (Ok Moved) p o = o ≡ Ok (Some p)
 FoundAfter (Ok Full) p o = o ≡ Ok None
 FoundAfter (Ok Unlearned) p o = ⊥
+FoundAfter (Ok m) p o = o ≡ Ok (Some p)
 FoundAfter (Err e) p o = o ≡ Err e
-
--- The laws themselves, of all sets. Each is proved in proofs/Follow.antt.
-
-abbrev pub FindLaw : Type 0
-FindLaw = (l k : List Entry) (f : ℕ) (a : List ℕ) (r : Result (Option ℕ) Refusal) → k ≡ l → r ≡ answered l f a → Finds l k f a r
-
-abbrev pub LearnLaw : Type 0
-LearnLaw = (share : ℕ) (l k : List Entry) (f : ℕ) (a : List ℕ) (p t : ℕ) (r : Result Mark Refusal) → k ≡ after_learn share l f a p t → r ≡ learned_mark share l f a p → rises l ≡ true → ((g : ℕ) → count_of g l ≤ share) → Learns share l k f a p t r
-
-abbrev pub ExpireLaw : Type 0
-ExpireLaw = (limit : ℕ) (l k : List Entry) (r : ℕ) → k ≡ after_expire limit l → r ≡ expired limit l → Expires limit l k r
-
-abbrev pub FlushLaw : Type 0
-FlushLaw = (l k : List Entry) (f : ℕ) (r : Result ℕ Refusal) → k ≡ after_flush l f → r ≡ flushed l f → Flushes l k f r
