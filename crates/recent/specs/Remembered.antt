@@ -4,7 +4,7 @@ use Rattle.std.specs.Prelude.{◌≡◌, ℕ, Bool, true, false, cond, ◌&&◌,
 use Rattle.std.specs.Fn.{Shared}
 use Rattle.std.specs.Str.{bytes_eq}
 use Rattle.fault.specs.declared.mark.Mark.{Mark}
-use Rattle.fault.specs.declared.mark.Mark.TheVariants.{New, Known, Moved, Full, Unlearned}
+use Rattle.fault.specs.declared.mark.Mark.TheVariants.{Known, Full}
 use Rattle.recent.specs.declared.remembered.Remembered.{Remembered}
 
 -- The answer is for this pair.
@@ -42,10 +42,8 @@ abbrev pub left : (Remembered → Bool) → Option Remembered → Option Remembe
 left touched None = None
 left touched (Some m) = cond (touched m) None (Some m)
 
--- Whether answers may differ after a learn with this mark.
+-- Whether answers may differ after a learn with this mark: not where the port was the same or there was no room.
 abbrev pub alters : Mark → Bool
-alters New = true
 alters Known = false
-alters Moved = true
 alters Full = false
-alters Unlearned = true
+alters _ = true

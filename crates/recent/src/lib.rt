@@ -1,4 +1,4 @@
-// A filtering table that remembers its latest answers.
+//! A filtering table that remembers its latest answers.
 #![tactic(auto)]
 
 mod memory;

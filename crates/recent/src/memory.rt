@@ -1,5 +1,5 @@
-// Slots with the latest answers. Besides what each function does, its contract says that answers which
-// are right stay so.
+//! Slots with the latest answers. Besides what each function does, its contract says that answers which
+//! are right stay so.
 ghost use Rattle.std.specs.Prelude.{◌≡◌, ℕ, Bool, false, List, map, Ok, Option};
 ghost use Rattle.table.specs.declared.entry.Entry.{Entry};
 ghost use Rattle.table.specs.Calls.{after_expire, after_flush, after_learn, learned_mark};

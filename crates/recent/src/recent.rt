@@ -1,4 +1,4 @@
-// A table that answers from memory what it was asked lately. It means what the table below it means.
+//! A table that answers from memory what it was asked lately. It means what the table below it means.
 ghost use Rattle.std.specs.Prelude.{◌≡◌, ◌<◌, replicate, None};
 ghost use Rattle.recent.specs.Right.{Right, Right-prop};
 
@@ -9,6 +9,7 @@ use fault::refusal::Refusal;
 use table::entry::{Entry, Key};
 use table::table::Table;
 
+/// A list of the last eight answers of `find` over any table. Which answers it remembers is no part of its meaning.
 #[derive(Drop)]
 pub struct Recent<T: Table> {
     table: T,
@@ -22,6 +23,7 @@ pub struct Recent<T: Table> {
 }
 
 impl<T: Table> Recent<T> {
+    /// Over this table, remembering nothing yet. It asks nothing, and refuses nothing.
     #[tactic(auto, using(crate::proofs::Rights::right_empty))]
     pub fn new(table: T) -> Recent<T>
         ensures table { result.table ≡ table }

@@ -1,10 +1,10 @@
-// One remembered answer.
+//! One remembered answer.
 ghost use Rattle.std.specs.Prelude.{◌≡◌};
 ghost use Rattle.recent.specs.Remembered.{is_for};
 
 use table::entry::Key;
 
-// What `find` answered for a pair.
+/// What `find` answered for a pair.
 #[derive(Clone, Copy, PartialEq, Eq, Debug, Drop)]
 pub struct Remembered {
     pub key: Key,

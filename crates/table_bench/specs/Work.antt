@@ -1,9 +1,9 @@
 -- The work that is timed, as what it does to a table's set. Every kind of table does the same, so that its
 -- checksum is one number for all of them. Entries are counted through all sixteen filtering databases, so
 -- that neighbours are of different ones; the same addresses stand in each.
-use Rattle.std.specs.Prelude.{ℕ, zero, suc, ◌+◌, ◌-◌, ◌/◌, ◌%◌, ◌^◌, cond, List, [], ◌∷◌, Some, None, Ok, Err, Option, Result, ◌==◌, nat_lt}
+use Rattle.std.specs.Prelude.{ℕ, zero, suc, ◌+◌, ◌-◌, ◌/◌, ◌%◌, ◌^◌, cond, List, [], ◌∷◌, Some, Ok, Option, Result, ◌==◌, nat_lt}
 use Rattle.fault.specs.declared.mark.Mark.{Mark}
-use Rattle.fault.specs.declared.mark.Mark.TheVariants.{New, Known, Moved, Full, Unlearned}
+use Rattle.fault.specs.declared.mark.Mark.TheVariants.{Known}
 use Rattle.fault.specs.declared.refusal.Refusal.{Refusal}
 use Rattle.table.specs.declared.entry.Entry.{Entry}
 use Rattle.table.specs.Calls.{answered, learned_mark, after_learn, expired, after_expire}
@@ -41,16 +41,11 @@ filled share (suc k) = after_learn share (filled share k) (fid_at k) (address_at
 -- What an answer counts in a checksum: one more than the port, or 1 for an address that was known.
 abbrev pub worth_of : Result (Option ℕ) Refusal → ℕ
 worth_of (Ok (Some p)) = p + 1
-worth_of (Ok None) = 0
-worth_of (Err e) = 0
+worth_of _ = 0
 
 abbrev pub worth_of_mark : Result Mark Refusal → ℕ
-worth_of_mark (Ok New) = 0
 worth_of_mark (Ok Known) = 1
-worth_of_mark (Ok Moved) = 0
-worth_of_mark (Ok Full) = 0
-worth_of_mark (Ok Unlearned) = 0
-worth_of_mark (Err e) = 0
+worth_of_mark _ = 0
 
 -- Checksums wrap at 64 bits.
 abbrev pub plus : ℕ → ℕ → ℕ

@@ -1,4 +1,4 @@
-// The entries that a table is filled with: the same addresses in each database.
+//! The entries that a table is filled with: the same addresses in each database.
 ghost use Rattle.std.specs.Prelude.{◌≡◌, ◌+◌, ◌/◌};
 ghost use Rattle.table_bench.specs.Work.{address_at, entry_at, fid_at};
 

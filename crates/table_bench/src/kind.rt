@@ -1,4 +1,4 @@
-// The kinds of tables, and their numbers for other languages.
+//! The kinds of tables, and their numbers for other languages.
 #[derive(Clone, Copy, PartialEq, Eq, Debug, Drop)]
 pub enum Kind {
     Searched,

@@ -1,4 +1,4 @@
-// Work for the tables that a program outside can time, through plain numbers.
+//! Work for the tables that a program outside can time, through plain numbers.
 #![tactic(auto)]
 
 pub mod c_api;

@@ -1,4 +1,4 @@
-// How many entries a table is filled with, all sixteen databases together.
+//! How many entries a table is filled with, all sixteen databases together.
 ghost use Rattle.std.specs.Prelude.{◌≤◌};
 
 // Entries are numbered from 0. Neighbours are of different databases.

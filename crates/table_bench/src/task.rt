@@ -1,4 +1,4 @@
-// What is timed, once a table is filled.
+//! What is timed, once a table is filled.
 ghost use Rattle.std.specs.Prelude.{◌≡◌, ℕ, List};
 ghost use Rattle.table.specs.declared.entry.Entry.{Entry};
 ghost use Rattle.table_bench.specs.Work.{aged, aged_worth, found_worth, heard_again, learned_worth, unaltered};

@@ -1,4 +1,4 @@
-// The work, at any table. The entries of all sixteen databases are counted through together.
+//! The work, at any table. The entries of all sixteen databases are counted through together.
 ghost use Rattle.std.specs.Prelude.{◌≡◌, ◌*◌, []};
 ghost use Rattle.table_bench.specs.Task.{entries_for, performed, stride_of};
 ghost use Rattle.table_bench.specs.Work.{filled, sum_of};
