@@ -3,7 +3,7 @@ use Rattle.std.proofs.Common.{◌≡◌, ℕ, ◌-◌, ◌*◌, ◌/◌, ◌%◌
 use Rattle.std.specs.Int.{bit_at, w16, bit_not}
 use Rattle.std.proofs.lemmas.Bool.{cases_lt, cases_eq, cond-true, cond-false, eq-eqb, ne_eqb, false_from_ne_true}
 use Rattle.std.proofs.lemmas.List.{ext_get_or, get_or_past, length-set, length-replicate, get_or-replicate, get_or-set_same, get_or-set_other, set_past}
-use Rattle.std.proofs.lemmas.Nat.{or_lt, and_le_l, one_shl, pow_below}
+use Rattle.std.proofs.lemmas.Nat.{or_lt, one_shl, pow_below}
 use Rattle.std.proofs.lemmas.Nat.Bits.{bit_at-lt, bit_at_lowest, bit_at-suc, bit_at-zero, bit_at_above, bit_at_and, bit_at_or, bit_at_not, shr_and_one, bit_at_set_same, bit_at_set_other, bit_at_clear_same, bit_at_clear_other}
 use Rattle.std.specs.Cmp.{booleans_Decides}
 use Rattle.std.specs.Cmp.Lexicographic.{pointwise, pointwise_decides}
@@ -95,9 +95,6 @@ clear_flag n word k fits inside =
 pub set_below : (n word k : ℕ) → n ≤ 16 → k < n → word < 2 ^ n → bit_or word (1 * 2 ^ k % 2 ^ 16) < 2 ^ n
 set_below n word k fits l h = or_lt n word (1 * 2 ^ k % 2 ^ 16) h (rw (one_shl k 16 (omega arith)) (pow_below k n l))
 
-pub and_below : (m word other : ℕ) → word < m → bit_and word other < m
-and_below m word other h = omega (arith, and_le_l word other)
-
 -- two sets, flag by flag
 length-flag_by_flag : (both : Bool → Bool → Bool) (flags others : List Bool) → length flags ≡ length others → length (flag_by_flag both flags others) ≡ length flags
 length-flag_by_flag both [] others e = refl
@@ -160,9 +157,6 @@ difference_flags n a b fits h =
     (λ k l. ap (λ bit. bit == 1) (bit_at_and a (bit_not w16 b) k)
     ∙ and_bit (bit_at a k) (bit_at (bit_not w16 b) k) (bit_at-lt a k) (bit_at-lt (bit_not w16 b) k)
     ∙ ap (λ flag. (bit_at a k == 1) && flag) (ap (λ bit. bit == 1) (bit_at_not w16 b k h (omega arith)) ∙ not_bit (bit_at b k) (bit_at-lt b k)))
-
-pub union_below : (n a b : ℕ) → a < 2 ^ n → b < 2 ^ n → bit_or a b < 2 ^ n
-union_below n a b h g = or_lt n a b h g
 
 -- two words have the same flags if they are the same
 pub same_flags : (n a b : ℕ) → a < 2 ^ n → b < 2 ^ n → (a == b) ≡ pointwise same_flag (flags_of n a) (flags_of n b)

@@ -2,3 +2,4 @@ pub mod Flags
 pub mod Orders
 pub mod Picks
 pub mod Rising
+pub mod ByNumber

@@ -3,7 +3,7 @@ use Rattle.std.proofs.Common.{◌≡◌, ℕ, ◌+◌, ◌-◌, ◌*◌, ◌/◌
 use Rattle.std.proofs.lemmas.Bool.{cases_lt, cond-true, cond-false}
 use Rattle.std.proofs.lemmas.List.FromFn.{length-range_with_len, get_or-range_with_len, length-map-range_with_len, get_or-map-range_with_len}
 use Rattle.std.proofs.lemmas.Nat.{div-add-mod', mod-mul-add}
-use Rattle.sets.specs.Sets.{holds, first_held, upward, downward, round}
+use Rattle.sets.specs.Sets.{holds, first_held, rising, falling, going_round}
 
 -- an order comes first to the number at `place` if that is in the set and none before it is
 first_at : (order : List ℕ) (held : List Bool) (place : ℕ) → place < length order → holds held (slice_index order place) ≡ true → ((j : ℕ) → j < place → holds held (slice_index order j) ≡ false) → first_held order held ≡ Some (slice_index order place)
@@ -17,32 +17,32 @@ pub first_nowhere : (order : List ℕ) (held : List Bool) → ((k : ℕ) → hol
 first_nowhere [] held none = refl
 first_nowhere (x ∷ xs) held none = cond-false (holds held x) (Some x) (first_held xs held) (none x) ∙ first_nowhere xs held none
 
-upward_at : (n i : ℕ) → i < n → slice_index (upward n) i ≡ i
-upward_at n i l = get_or-range_with_len 0 n i 0 l ∙ omega arith
+rising_at : (n i : ℕ) → i < n → slice_index (rising n) i ≡ i
+rising_at n i l = get_or-range_with_len 0 n i 0 l ∙ omega arith
 
-length-downward : (n : ℕ) → length (downward n) ≡ n
-length-downward zero = refl
-length-downward (suc n) = ap suc (length-downward n)
+length-falling : (n : ℕ) → length (falling n) ≡ n
+length-falling zero = refl
+length-falling (suc n) = ap suc (length-falling n)
 
-downward_at : (n i j : ℕ) → i + j + 1 ≡ n → slice_index (downward n) i ≡ j
-downward_at zero i j e = absurd (omega arith)
-downward_at (suc n) zero j e = omega arith
-downward_at (suc n) (suc i) j e = downward_at n i j (omega arith)
+falling_at : (n i j : ℕ) → i + j + 1 ≡ n → slice_index (falling n) i ≡ j
+falling_at zero i j e = absurd (omega arith)
+falling_at (suc n) zero j e = omega arith
+falling_at (suc n) (suc i) j e = falling_at n i j (omega arith)
 
-round_at : (n last i : ℕ) → i < n → slice_index (round n last) i ≡ (last + (1 + i)) % n
+round_at : (n last i : ℕ) → i < n → slice_index (going_round n last) i ≡ (last + (1 + i)) % n
 round_at n last i l = get_or-map-range_with_len (λ steps. (last + steps) % n) 1 n i (1 + i) 0 l refl
 
-pub lowest_is : (n k : ℕ) (held : List Bool) → k < n → holds held k ≡ true → ((j : ℕ) → j < k → holds held j ≡ false) → first_held (upward n) held ≡ Some k
+pub lowest_is : (n k : ℕ) (held : List Bool) → k < n → holds held k ≡ true → ((j : ℕ) → j < k → holds held j ≡ false) → first_held (rising n) held ≡ Some k
 lowest_is n k held l is below =
-    first_at (upward n) held k (omega (arith, length-range_with_len 0 n)) (ap (holds held) (upward_at n k l) ∙ is)
-    (λ j m. ap (holds held) (upward_at n j (omega arith)) ∙ below j m)
-    ∙ ap (λ (x : ℕ). Some x) (upward_at n k l)
+    first_at (rising n) held k (omega (arith, length-range_with_len 0 n)) (ap (holds held) (rising_at n k l) ∙ is)
+    (λ j m. ap (holds held) (rising_at n j (omega arith)) ∙ below j m)
+    ∙ ap (λ (x : ℕ). Some x) (rising_at n k l)
 
-pub highest_is : (n k : ℕ) (held : List Bool) → k < n → holds held k ≡ true → ((j : ℕ) → k < j → holds held j ≡ false) → first_held (downward n) held ≡ Some k
+pub highest_is : (n k : ℕ) (held : List Bool) → k < n → holds held k ≡ true → ((j : ℕ) → k < j → holds held j ≡ false) → first_held (falling n) held ≡ Some k
 highest_is n k held l is above =
-    let at : slice_index (downward n) (n - 1 - k) ≡ k = downward_at n (n - 1 - k) k (omega arith) in
-    first_at (downward n) held (n - 1 - k) (omega (arith, length-downward n)) (ap (holds held) at ∙ is)
-    (λ j m. ap (holds held) (downward_at n j (n - 1 - j) (omega arith)) ∙ above (n - 1 - j) (omega arith))
+    let at : slice_index (falling n) (n - 1 - k) ≡ k = falling_at n (n - 1 - k) k (omega arith) in
+    first_at (falling n) held (n - 1 - k) (omega (arith, length-falling n)) (ap (holds held) at ∙ is)
+    (λ j m. ap (holds held) (falling_at n j (n - 1 - j) (omega arith)) ∙ above (n - 1 - j) (omega arith))
     ∙ ap (λ (x : ℕ). Some x) at
 
 -- that many steps upward, before the end of the numbers and past it
@@ -55,19 +55,18 @@ past n last steps rest e h =
     ap (λ (x : ℕ). x % n) (let e : last + steps ≡ (last / n + 1) * n + rest = omega (arith, div-add-mod' last n) in e) ∙ mod-mul-add (last / n + 1) n rest h
 
 -- from `last` on, the lowest above it comes first
-pub next_is : (n last k : ℕ) (held : List Bool) → last % n < k → k < n → holds held k ≡ true → ((j : ℕ) → last % n < j → j < k → holds held j ≡ false) → first_held (round n last) held ≡ Some k
+pub next_is : (n last k : ℕ) (held : List Bool) → last % n < k → k < n → holds held k ≡ true → ((j : ℕ) → last % n < j → j < k → holds held j ≡ false) → first_held (going_round n last) held ≡ Some k
 next_is n last k held up l is between =
-    let i : ℕ = k - last % n - 1 in
-    let at : slice_index (round n last) (k - last % n - 1) ≡ k = round_at n last (k - last % n - 1) (omega arith) ∙ straight n last (1 + (k - last % n - 1)) (omega arith) ∙ omega arith in
-    first_at (round n last) held (k - last % n - 1) (omega (arith, length-map-range_with_len (λ steps. (last + steps) % n) 1 n)) (ap (holds held) at ∙ is)
+    let at : slice_index (going_round n last) (k - last % n - 1) ≡ k = round_at n last (k - last % n - 1) (omega arith) ∙ straight n last (1 + (k - last % n - 1)) (omega arith) ∙ omega arith in
+    first_at (going_round n last) held (k - last % n - 1) (omega (arith, length-map-range_with_len (λ steps. (last + steps) % n) 1 n)) (ap (holds held) at ∙ is)
     (λ j m. ap (holds held) (round_at n last j (omega arith) ∙ straight n last (1 + j) (omega arith)) ∙ between (last % n + (1 + j)) (omega arith) (omega arith))
     ∙ ap (λ (x : ℕ). Some x) at
 
 -- where none is above it, the lowest of all
-pub next_round : (n last k : ℕ) (held : List Bool) → k ≤ last % n → last % n < n → holds held k ≡ true → ((j : ℕ) → last % n < j → holds held j ≡ false) → ((j : ℕ) → j < k → holds held j ≡ false) → first_held (round n last) held ≡ Some k
+pub next_round : (n last k : ℕ) (held : List Bool) → k ≤ last % n → last % n < n → holds held k ≡ true → ((j : ℕ) → last % n < j → holds held j ≡ false) → ((j : ℕ) → j < k → holds held j ≡ false) → first_held (going_round n last) held ≡ Some k
 next_round n last k held le l is above below =
-    let at : slice_index (round n last) (n - last % n + k - 1) ≡ k = round_at n last (n - last % n + k - 1) (omega arith) ∙ past n last (1 + (n - last % n + k - 1)) k (omega arith) (omega arith) in
-    first_at (round n last) held (n - last % n + k - 1) (omega (arith, length-map-range_with_len (λ steps. (last + steps) % n) 1 n)) (ap (holds held) at ∙ is)
+    let at : slice_index (going_round n last) (n - last % n + k - 1) ≡ k = round_at n last (n - last % n + k - 1) (omega arith) ∙ past n last (1 + (n - last % n + k - 1)) k (omega arith) (omega arith) in
+    first_at (going_round n last) held (n - last % n + k - 1) (omega (arith, length-map-range_with_len (λ steps. (last + steps) % n) 1 n)) (ap (holds held) at ∙ is)
     (λ j m. elim (cases_lt (last % n + (1 + j)) n) [
       | inl up ↦ ap (holds held) (round_at n last j (omega arith) ∙ straight n last (1 + j) up) ∙ above (last % n + (1 + j)) (omega arith)
       | inr over ↦ ap (holds held) (round_at n last j (omega arith) ∙ past n last (1 + j) (last % n + (1 + j) - n) (omega arith) (omega arith)) ∙ below (last % n + (1 + j) - n) (omega arith)

@@ -4,7 +4,7 @@ use Rattle.std.specs.Int.{bit_at, w16, trailing_zeros}
 use Rattle.std.proofs.lemmas.Bool.{cases_lt}
 use Rattle.std.proofs.lemmas.Nat.{shr-shr, mod_below, le-div, div_below, pow-add, pow_pos, shr_le, pow_below}
 use Rattle.std.proofs.lemmas.Nat.Bits.{bit_at-zero, bit_at_above, bit_at-trailing_zeros}
-use Rattle.sets.specs.Sets.{holds, first_held, upward, downward, round}
+use Rattle.sets.specs.Sets.{holds, first_held, rising, falling, going_round}
 use Rattle.sets.specs.Words.{flags_of}
 use Rattle.sets.proofs.Flags.{holds-flags_of}
 use Rattle.sets.proofs.Orders.{first_nowhere, lowest_is, highest_is, next_is, next_round}
@@ -31,16 +31,16 @@ none_of : (n word k : ℕ) → word ≡ 0 → holds (flags_of n word) k ≡ fals
 none_of n word k e =
     not_in n word k (omega (arith, pow_pos n)) (ap (λ w. bit_at w k) e ∙ bit_at-zero k)
 
-pub lowest_none : (n word : ℕ) → word ≡ 0 → first_held (upward n) (flags_of n word) ≡ None
-lowest_none n word e = first_nowhere (upward n) (flags_of n word) (λ k. none_of n word k e)
+pub lowest_none : (n word : ℕ) → word ≡ 0 → first_held (rising n) (flags_of n word) ≡ None
+lowest_none n word e = first_nowhere (rising n) (flags_of n word) (λ k. none_of n word k e)
 
-pub highest_none : (n word : ℕ) → word ≡ 0 → first_held (downward n) (flags_of n word) ≡ None
-highest_none n word e = first_nowhere (downward n) (flags_of n word) (λ k. none_of n word k e)
+pub highest_none : (n word : ℕ) → word ≡ 0 → first_held (falling n) (flags_of n word) ≡ None
+highest_none n word e = first_nowhere (falling n) (flags_of n word) (λ k. none_of n word k e)
 
-pub next_none : (n last word : ℕ) → word ≡ 0 → first_held (round n last) (flags_of n word) ≡ None
-next_none n last word e = first_nowhere (round n last) (flags_of n word) (λ k. none_of n word k e)
+pub next_none : (n last word : ℕ) → word ≡ 0 → first_held (going_round n last) (flags_of n word) ≡ None
+next_none n last word e = first_nowhere (going_round n last) (flags_of n word) (λ k. none_of n word k e)
 
-pub lowest_bit : (n word : ℕ) → 0 < word → word < 2 ^ n → n ≤ 16 → first_held (upward n) (flags_of n word) ≡ Some (trailing_zeros w16 word)
+pub lowest_bit : (n word : ℕ) → 0 < word → word < 2 ^ n → n ≤ 16 → first_held (rising n) (flags_of n word) ≡ Some (trailing_zeros w16 word)
 lowest_bit n word some h fits =
     let t = bit_at-trailing_zeros w16 word some (wide n word h fits) in
     lowest_is n (trailing_zeros w16 word) (flags_of n word) (inside n word (trailing_zeros w16 word) h t.1)
@@ -53,7 +53,7 @@ top_bit word k low high =
     let most : word / 2 ^ k < 2 = div_below word (2 ^ k) 2 (pow_pos k) high in
     omega arith
 
-pub highest_bit : (n word k : ℕ) → 2 ^ k ≤ word → word < 2 * 2 ^ k → word < 2 ^ n → first_held (downward n) (flags_of n word) ≡ Some k
+pub highest_bit : (n word k : ℕ) → 2 ^ k ≤ word → word < 2 * 2 ^ k → word < 2 ^ n → first_held (falling n) (flags_of n word) ≡ Some k
 highest_bit n word k low high h =
     let is = top_bit word k low high in
     highest_is n k (flags_of n word) (inside n word k h is) (in_set n word k h is)
@@ -68,7 +68,7 @@ above_from : (word from j : ℕ) → from < j → bit_at word j ≡ bit_at (word
 above_from word from j l =
     sym (moved word from (j - from - 1) ∙ ap (bit_at word) (let e : from + 1 + (j - from - 1) ≡ j = omega arith in e))
 
-pub next_bit : (n last word : ℕ) → 0 < word / 2 ^ (last % n) / 2 → word < 2 ^ n → n ≤ 16 → first_held (round n last) (flags_of n word) ≡ Some (last % n + 1 + trailing_zeros w16 (word / 2 ^ (last % n) / 2))
+pub next_bit : (n last word : ℕ) → 0 < word / 2 ^ (last % n) / 2 → word < 2 ^ n → n ≤ 16 → first_held (going_round n last) (flags_of n word) ≡ Some (last % n + 1 + trailing_zeros w16 (word / 2 ^ (last % n) / 2))
 next_bit n last word some h fits =
     let small : word / 2 ^ (last % n) / 2 < 2 ^ 16 = omega (arith, wide n word h fits, shr_le word (last % n)) in
     let t = bit_at-trailing_zeros w16 (word / 2 ^ (last % n) / 2) some small in
@@ -78,7 +78,7 @@ next_bit n last word some h fits =
     (in_set n word (last % n + 1 + count) h is)
     (λ j up l. not_in n word j h (above_from word (last % n) j up ∙ t.2 (j - last % n - 1) (omega arith)))
 
-pub next_bit_round : (n last word : ℕ) → 0 < word → word / 2 ^ (last % n) / 2 ≡ 0 → word < 2 ^ n → n ≤ 16 → first_held (round n last) (flags_of n word) ≡ Some (trailing_zeros w16 word)
+pub next_bit_round : (n last word : ℕ) → 0 < word → word / 2 ^ (last % n) / 2 ≡ 0 → word < 2 ^ n → n ≤ 16 → first_held (going_round n last) (flags_of n word) ≡ Some (trailing_zeros w16 word)
 next_bit_round n last word some none h fits =
     let t = bit_at-trailing_zeros w16 word some (wide n word h fits) in
     let least : ℕ = trailing_zeros w16 word in

@@ -1,9 +1,9 @@
 -- The numbers in a set, and what is left of them without the lowest.
-use Rattle.std.proofs.Common.{◌≡◌, ℕ, ◌+◌, ◌≤◌, Bool, true, false, zero, suc, cond, List, [], ◌∷◌, length, Some, None, filter, find, slice_set, ◌≢◌, inl, inr, refl, ap, sym, ◌∙◌, arith}
+use Rattle.std.proofs.Common.{◌≡◌, ℕ, ◌+◌, ◌<◌, ◌≤◌, Bool, true, false, zero, suc, cond, List, [], ◌∷◌, length, Some, None, filter, find, slice_set, ◌≢◌, inl, inr, refl, ap, sym, ◌∙◌, arith}
 use Rattle.std.specs.List.{range_with_len}
 use Rattle.std.proofs.lemmas.Bool.{cases_Bool, cases_lt, cond-true, cond-false}
 use Rattle.std.proofs.lemmas.List.{length-set, get_or-set_same, get_or-set_other, get_or_past}
-use Rattle.sets.specs.Sets.{holds, first_held, members, upward}
+use Rattle.sets.specs.Sets.{holds, first_held, members, rising}
 
 find_none : (p : ℕ → Bool) (xs : List ℕ) → find p xs ≡ None → filter p xs ≡ []
 find_none p [] e = refl
@@ -24,7 +24,6 @@ alike p q a (suc m) h =
 head_and_rest : (p q : ℕ → Bool) (a m x : ℕ) → ((y : ℕ) → y ≢ x → q y ≡ p y) → q x ≡ false → find p (range_with_len a m) ≡ Some x → (p x ≡ true) × (a ≤ x) × (filter p (range_with_len a m) ≡ x ∷ filter q (range_with_len a m))
 head_and_rest p q a zero x others this e = cc
 head_and_rest p q a (suc m) x others this e =
-    let rest : List ℕ = range_with_len (a + 1) m in
     elim (cases_Bool (p a)) [
       | inl passes ↦
           let same : a ≡ x = let some : Some a ≡ Some x = sym (cond-true (p a) (Some a) (find p (range_with_len (a + 1) m)) passes) ∙ e in cc in (
@@ -43,8 +42,8 @@ head_and_rest p q a (suc m) x others this e =
           )
     ]
 
-pub no_more : (n : ℕ) (held : List Bool) → length held ≡ n → None ≡ first_held (upward n) held → members held ≡ []
-no_more n held long e = find_none (holds held) (upward (length held)) (ap (λ (m : ℕ). first_held (upward m) held) long ∙ sym e)
+pub no_more : (n : ℕ) (held : List Bool) → length held ≡ n → None ≡ first_held (rising n) held → members held ≡ []
+no_more n held long e = find_none (holds held) (rising (length held)) (ap (λ (m : ℕ). first_held (rising m) held) long ∙ sym e)
 
 taken_out : (held : List Bool) (x : ℕ) → holds (slice_set held x false) x ≡ false
 taken_out held x =
@@ -53,10 +52,21 @@ taken_out held x =
       | inr past ↦ get_or_past (slice_set held x false) x false (omega (arith, length-set held x false))
     ]
 
-pub one_fewer : (n x : ℕ) (held : List Bool) → length held ≡ n → Some x ≡ first_held (upward n) held → members held ≡ x ∷ members (slice_set held x false)
+pub one_fewer : (n x : ℕ) (held : List Bool) → length held ≡ n → Some x ≡ first_held (rising n) held → members held ≡ x ∷ members (slice_set held x false)
 one_fewer n x held long e =
     (head_and_rest (holds held) (holds (slice_set held x false)) 0 (length held) x
     (λ y other. get_or-set_other held x y false false other)
     (taken_out held x)
-    (ap (λ (m : ℕ). first_held (upward m) held) long ∙ sym e)).2
-    ∙ ap (λ (m : ℕ). x ∷ filter (holds (slice_set held x false)) (upward m)) (sym (length-set held x false))
+    (ap (λ (m : ℕ). first_held (rising m) held) long ∙ sym e)).2
+    ∙ ap (λ (m : ℕ). x ∷ filter (holds (slice_set held x false)) (rising m)) (sym (length-set held x false))
+
+found_below : (p : ℕ → Bool) (a m x : ℕ) → find p (range_with_len a m) ≡ Some x → x < a + m
+found_below p a zero x e = cc
+found_below p a (suc m) x e =
+    elim (cases_Bool (p a)) [
+      | inl passes ↦ let some : Some a ≡ Some x = sym (cond-true (p a) (Some a) (find p (range_with_len (a + 1) m)) passes) ∙ e in let same : a ≡ x = cc in omega arith
+      | inr fails ↦ let l = found_below p (a + 1) m x (sym (cond-false (p a) (Some a) (find p (range_with_len (a + 1) m)) fails) ∙ e) in omega (arith, l)
+    ]
+
+pub first_below : (n x : ℕ) (held : List Bool) → Some x ≡ first_held (rising n) held → x < n
+first_below n x held e = let l = found_below (holds held) 0 n x (sym e) in omega (arith, l)

@@ -1,4 +1,5 @@
--- A word below 2 ^ n is found again from its lowest n bits.
+-- A word below 2 ^ n is found again from its lowest n bits. So a set that is seen as its flags can be
+-- copied and compared.
 use Rattle.std.proofs.Common.{◌≡◌, ℕ, ◌/◌, ◌%◌, ◌^◌, ◌<◌, ◌==◌, zero, suc, cond, add-one, arith}
 use Rattle.std.proofs.lemmas.Nat.{shr_below}
 use Rattle.std.proofs.lemmas.Bool.Decides.{nat_tests}

@@ -14,6 +14,7 @@ abbrev pub any_in : List Bool → Bool
 any_in [] = false
 any_in (flag ∷ flags) = cond flag true (any_in flags)
 
+-- whether two flags are the same
 abbrev pub same_flag : Bool → Bool → Bool
 same_flag = beq
 
@@ -33,23 +34,24 @@ intersection = flag_by_flag (λ flag other. flag && other)
 abbrev pub difference : List Bool → List Bool → List Bool
 difference = flag_by_flag (λ flag other. flag && not other)
 
--- the numbers below n, upward
-abbrev pub upward : ℕ → List ℕ
-upward n = range_with_len 0 n
+-- the numbers below n, the lowest first
+abbrev pub rising : ℕ → List ℕ
+rising n = range_with_len 0 n
 
--- the numbers below n, downward
-abbrev pub downward : ℕ → List ℕ
-downward zero = []
-downward (suc n) = n ∷ downward n
+-- the numbers below n, the highest first
+abbrev pub falling : ℕ → List ℕ
+falling zero = []
+falling (suc n) = n ∷ falling n
 
--- the numbers below n, upward from the one after `last`, round past n - 1, to `last` itself
-abbrev pub round : ℕ → ℕ → List ℕ
-round n last = map (λ steps. (last + steps) % n) (range_with_len 1 n)
+-- the numbers below n in the order of their turns: upward from the one after `last`, and from n - 1 on to
+-- 0, so that `last` itself comes last
+abbrev pub going_round : ℕ → ℕ → List ℕ
+going_round n last = map (λ steps. (last + steps) % n) (range_with_len 1 n)
 
 -- the first number, in the order given, that is in the set
 abbrev pub first_held : List ℕ → List Bool → Option ℕ
 first_held order held = find (holds held) order
 
--- the numbers in the set, upward
+-- the numbers in the set, the lowest first
 abbrev pub members : List Bool → List ℕ
-members held = filter (holds held) (upward (length held))
+members held = filter (holds held) (rising (length held))

@@ -1,4 +1,5 @@
--- How a word keeps a set: the lowest bit is the flag of 0, the next that of 1, and so on.
+-- How a word keeps a set: the lowest bit is the flag of 0, the next that of 1, and so on. The word and
+-- the flags say the same: `word_of` gives the word back (`Inverse`). No contract speaks of the word.
 use Rattle.std.specs.Prelude.{ℕ, ◌+◌, ◌*◌, ◌/◌, ◌%◌, ◌==◌, Bool, cond, List, [], ◌∷◌, zero, suc, min}
 
 -- the flags of the lowest n bits

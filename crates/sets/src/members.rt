@@ -1,7 +1,8 @@
 //! Going over the numbers in a set.
-ghost use Rattle.std.specs.Prelude.{◌≡◌};
+ghost use Rattle.std.specs.Prelude.{◌≡◌, ◌<◌, IfSome};
 ghost use Rattle.std.specs.Iterator.{YieldsFirst, item_count};
 ghost use Rattle.sets.specs.Sets.{members};
+ghost use Rattle.sets.specs.Words.{width};
 
 use crate::number_set::NumberSet;
 use std::marker::Model;
@@ -27,12 +28,13 @@ impl<const N: usize> Model for Members<N> {
 impl<const N: usize> Iterator for Members<N> {
     type Item = u8;
 
-    ghost next_gives = { YieldsFirst (λ rest. rest) };
+    // The first of the numbers that are left, which is a number that a set of this size may hold.
+    ghost next_gives = { λ old number new. YieldsFirst (λ rest. rest) old number new × IfSome number (λ n. n < width N) };
 
     ghost remaining = { item_count (λ rest. rest) };
 
     #[inline]
-    #[tactic(auto, using(crate::proofs::Rising::no_more, crate::proofs::Rising::one_fewer))]
+    #[tactic(auto, using(crate::proofs::Rising::no_more, crate::proofs::Rising::one_fewer, crate::proofs::Rising::first_below))]
     fn next(&mut self) -> Option<u8> {
         let lowest = self.left.lowest()?;
         self.left.remove(lowest);

@@ -1,13 +1,13 @@
 //! Sets of numbers in one word.
 ghost use Rattle.std.specs.Prelude.{◌≡◌, false, true, length, not, replicate, slice_set};
 ghost use Rattle.std.proofs.Common.{rules};
-ghost use Rattle.std.specs.Cmp.{bool_eq_equiv};
 ghost use Rattle.std.specs.Cmp.Rules.{comparing};
 ghost use Rattle.std.specs.Cmp.Lexicographic.{pointwise};
-ghost use Rattle.sets.specs.Sets.{holds, any_in, same_flag, union, intersection, difference, upward, downward, round, first_held, members};
+ghost use Rattle.sets.specs.Sets.{holds, any_in, same_flag, union, intersection, difference, rising, falling, going_round, first_held, members};
 ghost use Rattle.sets.specs.Words.{width};
 
 use crate::members::Members;
+use std::fmt;
 use std::marker::Model;
 
 /// How many ports a bridge may have, numbered from 0.
@@ -23,7 +23,7 @@ pub type PortSet = NumberSet<PORTS>;
 pub type ClassSet = NumberSet<CLASSES>;
 
 /// A set of numbers below `N`, which is at most 16: no number from 16 on is ever in a set.
-#[derive(Debug, Clone, Copy, Drop)]
+#[derive(Clone, Copy, Drop)]
 pub struct NumberSet<const N: usize> {
     word: u16,
 }
@@ -96,7 +96,7 @@ impl<const N: usize> NumberSet<N> {
 
     /// The numbers that are in this set, in the other, or in both.
     #[inline]
-    #[tactic(auto, using(crate::proofs::Flags::union_flags, crate::proofs::Flags::union_below))]
+    #[tactic(auto, using(crate::proofs::Flags::union_flags, std::proofs::lemmas::Nat::or_lt))]
     pub fn union(&self, other: &Self) -> Self
         ensures { result ≡ union self.now other.now }
     {
@@ -131,7 +131,7 @@ impl<const N: usize> NumberSet<N> {
     #[inline]
     #[tactic(auto, using(crate::proofs::Picks::lowest_none, crate::proofs::Picks::lowest_bit))]
     pub fn lowest(&self) -> Option<u8>
-        ensures { result ≡ first_held (upward (width N)) self.now }
+        ensures { result ≡ first_held (rising (width N)) self.now }
     {
         if self.word == 0 {
             return None;
@@ -143,7 +143,7 @@ impl<const N: usize> NumberSet<N> {
     #[inline]
     #[tactic(auto, using(crate::proofs::Picks::highest_none, crate::proofs::Picks::highest_bit))]
     pub fn highest(&self) -> Option<u8>
-        ensures { result ≡ first_held (downward (width N)) self.now }
+        ensures { result ≡ first_held (falling (width N)) self.now }
     {
         if self.word == 0 {
             return None;
@@ -151,12 +151,13 @@ impl<const N: usize> NumberSet<N> {
         Some(self.word.ilog2() as u8)
     }
 
-    /// The next number of the set upward from `last`, going on from the highest to 0. `last` itself
-    /// comes last. A `last` of `N` or more counts as what it leaves when `N` is taken off as often as can be.
+    /// The number of the set that has the next turn after `last`: the next one upward, and past the
+    /// highest the lowest. `last` itself has its turn last of all. A `last` of `N` or more counts as its
+    /// remainder by `N`.
     #[inline]
     #[tactic(auto, using(crate::proofs::Picks::next_none, crate::proofs::Picks::next_bit, crate::proofs::Picks::next_bit_round))]
     pub fn next_after(&self, last: u8) -> Option<u8>
-        ensures { result ≡ first_held (round (width N) last) self.now }
+        ensures { result ≡ first_held (going_round (width N) last) self.now }
     {
         if self.word == 0 {
             return None;
@@ -198,4 +199,11 @@ impl<const N: usize> PartialEq for NumberSet<N> {
 
 impl<const N: usize> Eq for NumberSet<N> {
     ghost laws = { Prim.search (comparing, rules) };
+}
+
+impl<const N: usize> fmt::Debug for NumberSet<N> {
+    /// Writes the numbers, as `{0, 3}`.
+    fn fmt<W: fmt::Write>(&self, f: &mut fmt::Formatter<W>) -> fmt::Result {
+        f.debug_set().entries(self.iter()).finish()
+    }
 }
