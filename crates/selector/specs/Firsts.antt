@@ -7,8 +7,8 @@ use Rattle.std.proofs.lemmas.Bool.{both_ways}
 use Rattle.std.proofs.lemmas.List.Folds.{find_at}
 use Rattle.std.proofs.lemmas.List.Sums.{fails_before_first, passes_at_first}
 use Rattle.std.proofs.lemmas.Option.{get_or_from_slice_get, none-some, slice_get-get_or, slice_get_within}
-use Rattle.selector.specs.Classes.{NoneHeld, first_held}
-use Rattle.selector.specs.Sets.{holds}
+use Rattle.sets.specs.Sets.{first_held, holds}
+use Rattle.selector.specs.Classes.{NoneHeld}
 
 -- a class of the order that is held, while none before it is
 pub record First (order : List ℕ) (held : List Bool) (class : ℕ) : Type 0 where

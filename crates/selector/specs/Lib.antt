@@ -1,4 +1,3 @@
-pub mod Sets
 pub mod Classes
 pub mod Answers
 pub mod Strict

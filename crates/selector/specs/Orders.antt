@@ -3,7 +3,7 @@
 use Rattle.std.specs.Prelude.{◌≡◌, ℕ, ◌+◌, ◌-◌, ◌*◌, ◌%◌, ◌<◌, Bool, false, List, Some, None, slice_index}
 use Rattle.std.proofs.Common.{sym, ◌∙◌, ap, arith}
 use Rattle.std.proofs.lemmas.List.FromFn.{get_or-map-range_with_len}
-use Rattle.selector.specs.Sets.{holds}
+use Rattle.sets.specs.Sets.{holds}
 use Rattle.selector.specs.Strict.{downward, highest, Highest}
 use Rattle.selector.specs.Turns.{steps_up, upward, next_turn, NextUp}
 use Rattle.selector.specs.Firsts.{first_is, first_none}

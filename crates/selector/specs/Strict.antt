@@ -1,8 +1,7 @@
 -- Strict priority picks the highest class that holds a frame. It looks at class 7 first, then at 6, and
 -- so on down to 0. `Highest` says in words what the class found that way is.
 use Rattle.std.specs.Prelude.{◌≡◌, ℕ, ◌<◌, Bool, true, false, List, [], ◌∷◌, Option}
-use Rattle.selector.specs.Classes.{first_held}
-use Rattle.selector.specs.Sets.{holds}
+use Rattle.sets.specs.Sets.{first_held, holds}
 
 -- all classes, the highest first
 abbrev pub downward : List ℕ

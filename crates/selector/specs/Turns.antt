@@ -3,8 +3,7 @@
 -- class found that way is.
 use Rattle.std.specs.Prelude.{◌≡◌, ℕ, ◌+◌, ◌%◌, ◌<◌, ◌≤◌, Bool, true, false, List, [], ◌∷◌, map, Some, None, Option, slice_set}
 use Rattle.selector.specs.declared.turns.TakingTurns.{TakingTurns}
-use Rattle.selector.specs.Classes.{first_held}
-use Rattle.selector.specs.Sets.{holds}
+use Rattle.sets.specs.Sets.{first_held, holds}
 
 -- the class that many steps upward from `last`
 abbrev pub steps_up : ℕ → ℕ → ℕ

@@ -1,9 +1,7 @@
-// Which traffic class of a port sends next.
+//! Which traffic class of a port sends next, of those that hold a frame.
 #![tactic(auto)]
 
-pub mod classes;
 pub mod picking;
 pub mod selector;
-pub mod sets;
 pub mod strict;
 pub mod turns;

@@ -1,18 +1,15 @@
-// What every selector does, whichever way it chooses.
+//! What every selector does, whichever way it chooses.
 ghost use Rattle.std.specs.Prelude.{◌≡◌, ℕ, ◌<◌, Bool, true, List, Some, None, Option};
+ghost use Rattle.sets.specs.Sets.{holds};
 ghost use Rattle.selector.specs.Answers.{served, kept};
 ghost use Rattle.selector.specs.Classes.{NoneHeld};
-ghost use Rattle.selector.specs.Sets.{holds};
 
-use crate::classes::ClassSet;
 use fault::refusal::Refusal;
+use sets::number_set::{ClassSet, PORTS};
 
-// A selector serves this many ports, numbered from 0.
-pub const PORTS: usize = 16;
-
-// Picks the traffic class that a port sends from next, of those that hold a frame. It serves the
-// ports 0 to 15. What it picks, and what it remembers afterwards, follow from what it remembers,
-// the port and the set alone.
+/// Picks the traffic class that a port sends from next, of those that hold a frame. It serves the
+/// ports 0 to 15. What it picks, and what it remembers afterwards, follow from what it remembers,
+/// the port and the set alone.
 pub trait Selector: Sized {
     // The class picked for a port, of the classes that hold a frame.
     ghost choice: { Self → ℕ → List Bool → Option ℕ };
@@ -20,10 +17,10 @@ pub trait Selector: Sized {
     // The selector after that pick.
     ghost after: { Self → ℕ → List Bool → Self };
 
-    // The class picked, if any. A port above 15 is refused, and the selector left as it was.
+    /// The class picked, if any. A port above 15 is refused, and the selector left as it was.
     fn pick(&mut self, port: u8, standing: &ClassSet) -> Result<Option<u8>, Refusal>
-        ensures answer { result ≡ served port (choice self.old port standing.now.held) }
-        ensures later { self.new ≡ kept port (after self.old port standing.now.held) self.old };
+        ensures answer { result ≡ served port (choice self.old port standing.now) }
+        ensures later { self.new ≡ kept port (after self.old port standing.now) self.old };
 
     // A pick is one of the eight classes.
     ghost below: { (s : Self) (port : ℕ) (held : List Bool) (class : ℕ) → choice s port held ≡ Some class → class < 8 };

@@ -1,4 +1,4 @@
-// Strict priority: the highest class that holds a frame goes first.
+//! Strict priority: the highest class that holds a frame goes first.
 ghost use Rattle.std.specs.Prelude.{◌≡◌};
 ghost use Rattle.selector.specs.Answers.{served, kept, Picked};
 ghost use Rattle.selector.specs.Strict.{highest, Highest};
@@ -6,14 +6,12 @@ ghost use Rattle.selector.specs.Orders.{highest_is, highest_none};
 ghost use Rattle.selector.specs.Firsts.{none_chosen};
 ghost use Rattle.std.proofs.Common.{rules};
 
-use crate::classes::{CLASSES, ClassSet};
 use crate::selector::{Selector, place_of};
 use fault::refusal::Refusal;
+use sets::number_set::ClassSet;
 
-const HIGHEST_FIRST: [u8; CLASSES] = [7, 6, 5, 4, 3, 2, 1, 0];
-
-// Picks the highest class, and remembers nothing.
-#[derive(Clone, Copy, Drop)]
+/// Picks the highest class, and remembers nothing.
+#[derive(Debug, Clone, Copy, PartialEq, Eq, Drop)]
 pub struct StrictPriority;
 
 impl Selector for StrictPriority {
@@ -32,11 +30,11 @@ impl Selector for StrictPriority {
     ghost keeps = { Prim.search rules };
 
     fn pick(&mut self, port: u8, standing: &ClassSet) -> Result<Option<u8>, Refusal>
-        ensures answer { result ≡ served port (highest standing.now.held) }
+        ensures answer { result ≡ served port (highest standing.now) }
         ensures later { self.new ≡ kept port self.old self.old }
-        ensures highest { Picked result (Highest standing.now.held) }
+        ensures highest { Picked result (Highest standing.now) }
     {
         place_of(port)?;
-        Ok(standing.first_of(&HIGHEST_FIRST))
+        Ok(standing.highest())
     }
 }

@@ -1,4 +1,4 @@
-// Taking turns: the class after the one picked last goes first.
+//! Taking turns: the class after the one picked last goes first.
 ghost use Rattle.std.specs.Prelude.{◌≡◌, replicate, slice_index};
 ghost use Rattle.selector.specs.Answers.{served, kept, Picked};
 ghost use Rattle.selector.specs.Turns.{upward, next_turn, remembers, NextUp};
@@ -6,31 +6,23 @@ ghost use Rattle.selector.specs.Orders.{turn_is, turn_none};
 ghost use Rattle.selector.specs.Firsts.{none_chosen};
 ghost use Rattle.std.proofs.Common.{rules};
 
-use crate::classes::{CLASSES, ClassSet};
-use crate::selector::{PORTS, Selector, place_of};
+use crate::selector::{Selector, place_of};
 use fault::refusal::Refusal;
+use sets::number_set::{ClassSet, PORTS};
 
-// Picks the next class upward, and remembers for each port the class picked last.
-#[derive(Clone, Copy, Drop)]
+/// Picks the next class upward, and remembers for each port the class picked last.
+#[derive(Debug, Clone, Copy, PartialEq, Eq, Drop)]
 pub struct TakingTurns {
     last: [u8; PORTS],
 }
 
 impl TakingTurns {
-    // As if class 7 had been picked last at every port, so that class 0 has the first turn.
+    /// As if class 7 had been picked last at every port, so that class 0 has the first turn.
     pub fn new() -> TakingTurns
         ensures { result.last ≡ replicate 16 7 }
     {
         TakingTurns { last: [7; PORTS] }
     }
-}
-
-// The classes in the order of their turns, from the one above `last` round to `last` itself. The sums
-// may wrap, since 256 is a multiple of 8.
-fn order_after(last: u8) -> [u8; CLASSES]
-    ensures { result ≡ upward last }
-{
-    [1, 2, 3, 4, 5, 6, 7, 8].map(|steps| last.wrapping_add(steps) % 8)
 }
 
 impl Selector for TakingTurns {
@@ -49,12 +41,12 @@ impl Selector for TakingTurns {
     ghost keeps = { Prim.search rules };
 
     fn pick(&mut self, port: u8, standing: &ClassSet) -> Result<Option<u8>, Refusal>
-        ensures answer { result ≡ served port (next_turn (slice_index self.old.last port) standing.now.held) }
-        ensures later { self.new ≡ kept port (remembers self.old port (next_turn (slice_index self.old.last port) standing.now.held)) self.old }
-        ensures next { Picked result (NextUp (slice_index self.old.last port) standing.now.held) }
+        ensures answer { result ≡ served port (next_turn (slice_index self.old.last port) standing.now) }
+        ensures later { self.new ≡ kept port (remembers self.old port (next_turn (slice_index self.old.last port) standing.now)) self.old }
+        ensures next { Picked result (NextUp (slice_index self.old.last port) standing.now) }
     {
         let place = place_of(port)?;
-        let picked = standing.first_of(&order_after(self.last[place]));
+        let picked = standing.next_after(self.last[place]);
         if let Some(class) = picked {
             self.last[place] = class;
         }

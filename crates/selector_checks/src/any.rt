@@ -1,9 +1,10 @@
 // What holds of every selector, tried at both.
-use crate::sets::{ALL, has, only, picks, set_of};
+use crate::sets::{ALL, only, picks};
 use selector::picking::next_class;
 use selector::selector::Selector;
 use selector::strict::StrictPriority;
 use selector::turns::TakingTurns;
+use sets_checks::words::{has, set_of};
 use std::process::Abort;
 use std::test::Fail;
 

@@ -1,10 +1,8 @@
-// Tests of the selectors, over every set of classes.
+//! Tests of the selectors, over every set of classes.
 #![tactic(auto)]
 
 #[cfg(test)]
 mod any;
-#[cfg(test)]
-mod classes;
 #[cfg(test)]
 mod sets;
 #[cfg(test)]

@@ -1,5 +1,6 @@
-use crate::sets::{ALL, has, picks};
+use crate::sets::{ALL, picks};
 use selector::strict::StrictPriority;
+use sets_checks::words::has;
 use std::test::Fail;
 
 // The greatest of the classes that hold a frame.

@@ -1,6 +1,7 @@
-use crate::sets::{ALL, has, only, picks, set_of};
+use crate::sets::{ALL, only, picks};
 use selector::selector::Selector;
 use selector::turns::TakingTurns;
+use sets_checks::words::{has, set_of};
 use std::test::Fail;
 
 // How many classes have their turn before `class` when `last` was picked last.

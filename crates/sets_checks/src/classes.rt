@@ -1,6 +1,5 @@
-use crate::sets::{has, set_of};
-use selector::classes::ClassSet;
-use selector::sets::NumberSet;
+use crate::words::{has, set_of};
+use sets::number_set::{ClassSet, NumberSet};
 
 #[test]
 fn the_empty_set_holds_nothing(rt: HostRuntime) {
@@ -13,7 +12,7 @@ fn the_empty_set_holds_nothing(rt: HostRuntime) {
 #[test]
 fn a_set_holds_what_was_put_in(rt: HostRuntime) {
     for bits in 0..256u16 {
-        let set = set_of(bits);
+        let set: ClassSet = set_of(bits);
         for class in 0..8u8 {
             assert_eq!(rt; set.contains(class), has(bits, class));
         }
@@ -26,7 +25,7 @@ fn a_set_holds_what_was_put_in(rt: HostRuntime) {
 #[test]
 fn a_number_above_seven_adds_nothing(rt: HostRuntime) {
     for bits in 0..256u16 {
-        let mut set = set_of(bits);
+        let mut set: ClassSet = set_of(bits);
         set.insert(8);
         set.insert(255);
         for class in 0..8u8 {
