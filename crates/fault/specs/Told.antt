@@ -26,52 +26,53 @@ abbrev pub layer_of : ℕ → Layer
 layer_of n =
     cond (nat_le 4 n && nat_le n 7) Frame (cond (nat_le 8 n && nat_le n 10) Ingress (cond (nat_le 11 n && nat_le n 14) Relay Elsewhere))
 
-abbrev pub plain : ℕ → Told
-plain n = record { number = n; layer = layer_of n; place = 0; mark = None }
+-- nothing but the number, and the layer that goes with it
+abbrev pub number_only : ℕ → Told
+number_only n = record { number = n; layer = layer_of n; place = 0; mark = None }
 
--- about a place in the frame
-abbrev pub placed : ℕ → ℕ → Told
-placed n place = record { number = n; layer = layer_of n; place = place; mark = None }
+-- about a place in the frame too
+abbrev pub with_place : ℕ → ℕ → Told
+with_place n place = record (number_only n) { place = place }
 
--- after learning
-abbrev pub marked : ℕ → Mark → Told
-marked n mark = record { number = n; layer = layer_of n; place = 0; mark = Some mark }
+-- with the mark of what was learned before
+abbrev pub with_mark : ℕ → Mark → Told
+with_mark n mark = record (number_only n) { mark = Some mark }
 
 abbrev pub told : Refusal → Told
-told NotStarted = plain 1
-told PortOutOfRange = plain 2
-told FrameMemoryTooSmall = plain 3
-told (FrameTooShort length) = placed 4 length
-told (FrameTooLong length) = placed 5 length
-told ReservedVid = placed 6 14
-told CfiSet = placed 7 14
-told FrameNotAdmitted = plain 8
-told VlanNotCreated = plain 9
-told NotMember = plain 10
-told PortNotLearning = plain 11
-told (PortNotForwarding mark) = marked 12 mark
-told (ReservedDestination mark) = marked 13 mark
-told (NoEgressPort mark) = marked 14 mark
-told OutputMemoryTooSmall = plain 15
-told NoFrameStands = plain 16
-told TimeBeforeClock = plain 17
-told TimeTooLarge = plain 18
-told UnknownEvent = plain 19
-told NoTransition = plain 20
-told FidOutOfRange = plain 21
-told AlreadyStarted = plain 22
-told PortCountOutOfRange = plain 23
-told ClassCountOutOfRange = plain 24
-told ShareOutOfRange = plain 25
-told DepthOutOfRange = plain 26
-told TableMemoryTooSmall = plain 27
-told VidOutOfRange = plain 28
-told PriorityOutOfRange = plain 29
-told MemberOutOfRange = plain 30
-told UntaggedNotMember = plain 31
-told AlreadyThere = plain 32
-told TooMany = plain 33
-told AgeingOutOfRange = plain 34
-told TagOutOfRange = plain 35
-told LengthOutOfRange = plain 36
-told DoesNotFit = plain 37
+told NotStarted = number_only 1
+told PortOutOfRange = number_only 2
+told FrameMemoryTooSmall = number_only 3
+told (FrameTooShort length) = with_place 4 length
+told (FrameTooLong length) = with_place 5 length
+told ReservedVid = with_place 6 14
+told CfiSet = with_place 7 14
+told FrameNotAdmitted = number_only 8
+told VlanNotCreated = number_only 9
+told NotMember = number_only 10
+told PortNotLearning = number_only 11
+told (PortNotForwarding mark) = with_mark 12 mark
+told (ReservedDestination mark) = with_mark 13 mark
+told (NoEgressPort mark) = with_mark 14 mark
+told OutputMemoryTooSmall = number_only 15
+told NoFrameStands = number_only 16
+told TimeBeforeClock = number_only 17
+told TimeTooLarge = number_only 18
+told UnknownEvent = number_only 19
+told NoTransition = number_only 20
+told FidOutOfRange = number_only 21
+told AlreadyStarted = number_only 22
+told PortCountOutOfRange = number_only 23
+told ClassCountOutOfRange = number_only 24
+told ShareOutOfRange = number_only 25
+told DepthOutOfRange = number_only 26
+told TableMemoryTooSmall = number_only 27
+told VidOutOfRange = number_only 28
+told PriorityOutOfRange = number_only 29
+told MemberOutOfRange = number_only 30
+told UntaggedNotMember = number_only 31
+told AlreadyThere = number_only 32
+told TooMany = number_only 33
+told AgeingOutOfRange = number_only 34
+told TagOutOfRange = number_only 35
+told LengthOutOfRange = number_only 36
+told DoesNotFit = number_only 37
