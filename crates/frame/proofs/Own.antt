@@ -3,7 +3,7 @@ use Rattle.std.proofs.Common.{◌≡◌, ℕ, ◌+◌, ◌*◌, ◌/◌, ◌%◌
 use Rattle.std.proofs.lemmas.List.{drop-drop, take-append-drop}
 use Rattle.std.proofs.lemmas.Bool.{le-leb}
 use Rattle.std.proofs.lemmas.Bool.Decides.{nat_tests}
-use Rattle.frame.specs.Reading.{Picture, asked, cfi_in, parts_of, places_of, priority_in, tag_in, tag_word, tagged, vid_in}
+use Rattle.frame.specs.Reading.{Picture, frame_asked, cfi_in, parts_of, places_of, priority_in, tag_in, tag_word, is_tagged, vid_in}
 use Rattle.frame.specs.Writing.{OwnBytes, frame_of, longest, shape_asked, size_of, tag_bytes, tag_fits}
 
 -- the four bytes of a tag, and what follows
@@ -24,8 +24,8 @@ rejoin f r e =
 asks : (n : ℕ) (p : Picture) → tag_fits p.tag ≡ true → size_of p ≡ n → 56 ≤ n → n ≤ longest p.tag → shape_asked p ≡ None
 asks n p t e low' high' = let l = le-leb 56 n low' in let h = le-leb n (longest p.tag) high' in rw (t, e, l, h) refl
 
-module _ (f : List ℕ) (yes' : asked f ≡ None) (bytes : (i : ℕ) → get_or f i 0 < 256) where
-  rest : (b : Bool) → tagged f ≡ b → drop 12 f ≡ tag_bytes (tag_in f) ++ drop (places_of (tag_in f)).body f
+module _ (f : List ℕ) (yes' : frame_asked f ≡ None) (bytes : (i : ℕ) → get_or f i 0 < 256) where
+  rest : (b : Bool) → is_tagged f ≡ b → drop 12 f ≡ tag_bytes (tag_in f) ++ drop (places_of (tag_in f)).body f
   rest false e = rw e refl
   rest true e =
       let n : 16 ≤ length f = grind (arith, nat_tests) in
@@ -38,16 +38,16 @@ module _ (f : List ℕ) (yes' : asked f ≡ None) (bytes : (i : ℕ) → get_or 
       four f n ∙ rw e (rw (a, b, w, h, l) refl)
 
   own : frame_of (parts_of f) ≡ f
-  own = rejoin f (tag_bytes (tag_in f) ++ drop (places_of (tag_in f)).body f) (rest (tagged f) refl)
+  own = rejoin f (tag_bytes (tag_in f) ++ drop (places_of (tag_in f)).body f) (rest (is_tagged f) refl)
 
   same_size : size_of (parts_of f) ≡ length f
-  same_size = at (tagged f) refl
+  same_size = at (is_tagged f) refl
     where
-      at : (b : Bool) → tagged f ≡ b → size_of (parts_of f) ≡ length f
+      at : (b : Bool) → is_tagged f ≡ b → size_of (parts_of f) ≡ length f
       at false e = let n : 60 ≤ length f = grind (arith, nat_tests) in rw e (simp length-drop (omega arith))
       at true e = let n : 60 ≤ length f = grind (arith, nat_tests) in rw e (simp length-drop (omega arith))
 
-  fits : (b : Bool) → tagged f ≡ b → tag_fits (tag_in f) ≡ true
+  fits : (b : Bool) → is_tagged f ≡ b → tag_fits (tag_in f) ≡ true
   fits false e = rw e refl
   fits true e =
       let h = bytes 14 in
@@ -58,14 +58,14 @@ module _ (f : List ℕ) (yes' : asked f ≡ None) (bytes : (i : ℕ) → get_or 
       let lv = le-leb (vid_in (tag_word f)) 4094 v in
       rw e (rw (lp, lv) refl)
 
-  short : (b : Bool) → tagged f ≡ b → length f ≤ longest (tag_in f)
+  short : (b : Bool) → is_tagged f ≡ b → length f ≤ longest (tag_in f)
   short false e = rw e (grind (arith, nat_tests))
   short true e = rw e (grind (arith, nat_tests))
 
   shape : shape_asked (parts_of f) ≡ None
   shape =
       let n : 56 ≤ length f = grind (arith, nat_tests) in
-      asks (length f) (parts_of f) (fits (tagged f) refl) same_size n (short (tagged f) refl)
+      asks (length f) (parts_of f) (fits (is_tagged f) refl) same_size n (short (is_tagged f) refl)
 
   pub own_bytes : OwnBytes f (Ok (parts_of f))
   own_bytes = (own, same_size, shape)

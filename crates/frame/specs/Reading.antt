@@ -9,8 +9,8 @@ use Rattle.frame.specs.declared.parts.Parts.{Parts}
 use Rattle.frame.specs.declared.parts.Places.{Places}
 use Rattle.frame.specs.declared.parts.Tag.{Tag}
 
-abbrev pub tagged : List ℕ → Bool
-tagged f = slice_index f 12 == 0x81 && slice_index f 13 == 0
+abbrev pub is_tagged : List ℕ → Bool
+is_tagged f = slice_index f 12 == 0x81 && slice_index f 13 == 0
 
 -- bytes 14 and 15, high byte first: three bits of priority, one of CFI, twelve of VID
 abbrev pub tag_word : List ℕ → ℕ
@@ -26,20 +26,20 @@ abbrev pub priority_in : ℕ → ℕ
 priority_in word = word / 8192
 
 -- the questions of a tagged frame: at most 1,518 bytes (5), a VID other than 4,095 (6), CFI 0 (7)
-abbrev pub asked_tagged : List ℕ → Option Refusal
-asked_tagged f =
+abbrev pub tagged_asked : List ℕ → Option Refusal
+tagged_asked f =
     cond (nat_lt 1518 (length f)) (Some (FrameTooLong (length f)))
     (cond (vid_in (tag_word f) == 4095) (Some ReservedVid) (cond (cfi_in (tag_word f) == 1) (Some CfiSet) None))
 
-abbrev pub asked_untagged : List ℕ → Option Refusal
-asked_untagged f = cond (nat_lt 1514 (length f)) (Some (FrameTooLong (length f))) None
+abbrev pub untagged_asked : List ℕ → Option Refusal
+untagged_asked f = cond (nat_lt 1514 (length f)) (Some (FrameTooLong (length f))) None
 
 -- the first question that the frame fails: at least 60 bytes (4), then as above
-abbrev pub asked : List ℕ → Option Refusal
-asked f = cond (nat_lt (length f) 60) (Some (FrameTooShort (length f))) (cond (tagged f) (asked_tagged f) (asked_untagged f))
+abbrev pub frame_asked : List ℕ → Option Refusal
+frame_asked f = cond (nat_lt (length f) 60) (Some (FrameTooShort (length f))) (cond (is_tagged f) (tagged_asked f) (untagged_asked f))
 
 abbrev pub tag_in : List ℕ → Option Tag
-tag_in f = cond (tagged f) (Some (record { priority = priority_in (tag_word f); vid = vid_in (tag_word f) })) None
+tag_in f = cond (is_tagged f) (Some (record { priority = priority_in (tag_word f); vid = vid_in (tag_word f) })) None
 
 -- where each part lies: the tag's two bytes are the 14th and 15th
 abbrev pub places_of : Option Tag → Places
@@ -58,7 +58,7 @@ parts_of f =
     record { destination = take 6 f; source = take 6 (drop 6 f); tag = tag_in f; body = drop (places_of (tag_in f)).body f }
 
 abbrev pub parse : List ℕ → Result Picture Refusal
-parse f = unless (asked f) (parts_of f)
+parse f = unless (frame_asked f) (parts_of f)
 
 -- the parts that code holds, by what they hold
 abbrev pub picture : Parts → Picture

@@ -1,24 +1,21 @@
-// Writing a frame from its parts into memory that the caller lends.
+//! Writing a frame from its parts into memory that the caller lends.
 ghost use Rattle.std.specs.Prelude.{◌≡◌, ◌+◌, ◌≤◌, true, length, nat_le, Some, Ok};
 ghost use Rattle.frame.specs.Reading.{picture};
+ghost use Rattle.frame.specs.declared.write.TheConstants.{CELL};
 ghost use Rattle.frame.specs.Writing.{ReadsBack, cell_after, cell_answer, frame_of, put_at, size_of, tag_bytes, tag_fits, write_after, write_answer};
 
-use crate::parts::{Parts, Tag};
+use crate::parts::{LONGEST_TAGGED, LONGEST_UNTAGGED, PRIORITY_BIT, Parts, TAG, TAG_FOLLOWS, Tag};
 use fault::refusal::Refusal;
 
 const HIGHEST_PRIORITY: u8 = 7;
 
 const HIGHEST_VID: u16 = 4094;
 
-const SHORTEST: usize = 56;
+// 4 less than what reading takes, since a tag may be left out of a frame that was read with one.
+const SHORTEST_WRITTEN: usize = 56;
 
-const LONGEST_BODY: usize = 1502;
-
-// The tag's four bytes follow the addresses.
-const TAG: usize = 12;
-
-// A cell of the frame memory holds any frame.
-pub const CELL: usize = 1518;
+/// The bytes of a cell of the frame memory, which holds any frame.
+pub const CELL: usize = LONGEST_TAGGED;
 
 // Lays bytes over a stretch of the memory.
 #[tactic(auto, using(crate::proofs::Placed::lent))]
@@ -35,9 +32,9 @@ fn tag_bytes(tag: Tag) -> [u8; 4]
     requires vid { tag.vid ≤ 4094 }
     ensures { result ≡ tag_bytes (Some tag) }
 {
-    let word = u16::from(tag.priority) * 8192 + tag.vid;
+    let word = u16::from(tag.priority) * PRIORITY_BIT + tag.vid;
     let [high, low] = word.to_be_bytes();
-    [0x81, 0, high, low]
+    [TAG_FOLLOWS[0], TAG_FOLLOWS[1], high, low]
 }
 
 // Whether so many bytes fit into the room from position `at` on.
@@ -56,11 +53,14 @@ fn measure(room: usize, at: usize, parts: &Parts<'_>) -> Result<usize, Refusal>
     {
         return Err(Refusal::TagOutOfRange);
     }
-    let body = parts.body.len();
-    if body > LONGEST_BODY || parts.places().body + body < SHORTEST {
+    let longest = match parts.tag {
+        None => LONGEST_UNTAGGED,
+        Some(_) => LONGEST_TAGGED,
+    };
+    let length = parts.places().body + parts.body.len();
+    if !(SHORTEST_WRITTEN..=longest).contains(&length) {
         return Err(Refusal::LengthOutOfRange);
     }
-    let length = parts.places().body + body;
     if !fits(room, at, length) {
         return Err(Refusal::DoesNotFit);
     }
@@ -91,7 +91,13 @@ fn lay(memory: &mut [u8], at: usize, size: usize, parts: &Parts<'_>)
     fill(&mut memory[at..at + size], parts);
 }
 
-// Writes a frame from position `at` on, and answers its length.
+/// Writes a frame from position `at` on, and answers its length. Nothing outside the frame changes, and a refused write
+/// changes nothing.
+///
+/// It asks in this order, and the first no is the refusal: a priority of at most 7 and a VID of at most 4,094 in the
+/// tag, if there is one (35); a frame of 56 to 1,514 bytes, or 56 to 1,518 with a tag (36); that the frame fits from
+/// `at` on (37). How an untagged body begins is not asked: one that begins 81 00 is written as it stands, and reads as
+/// a tag.
 // The memory comes whole and with a position: a part of it could not be one that lies outside, which is refused.
 pub fn write(memory: &mut [u8], at: usize, parts: &Parts<'_>) -> Result<usize, Refusal>
     ensures answer { result ≡ write_answer (length memory.old) at (picture parts.now) }
@@ -103,7 +109,20 @@ pub fn write(memory: &mut [u8], at: usize, parts: &Parts<'_>) -> Result<usize, R
     Ok(length)
 }
 
-// Writes a frame into the cell that begins at `place`, and touches nothing outside it.
+// Writes a frame into a cell that lies in the memory.
+fn write_in_cell(memory: &mut [u8], place: usize, parts: &Parts<'_>) -> Result<usize, Refusal>
+    requires { place + CELL ≤ length memory.old }
+    ensures answer { result ≡ cell_answer (length memory.old) place (picture parts.now) }
+    ensures after { memory.new ≡ cell_after memory.old place (picture parts.now) }
+{
+    write(&mut memory[place..place + CELL], 0, parts)
+}
+
+/// Writes a frame into the cell, of [`CELL`] bytes, that begins at `place`, and answers the frame's length. The rest of
+/// the cell and what is outside it keep their bytes, and a refused call changes nothing.
+///
+/// It asks as [`write`] does. A cell holds every frame of an allowed length, so 37 asks whether the cell lies in the
+/// memory.
 #[tactic(auto, using(crate::proofs::Room::no_room))]
 pub fn write_cell(memory: &mut [u8], place: usize, parts: &Parts<'_>) -> Result<usize, Refusal>
     ensures answer { result ≡ cell_answer (length memory.old) place (picture parts.now) }
@@ -113,5 +132,5 @@ pub fn write_cell(memory: &mut [u8], place: usize, parts: &Parts<'_>) -> Result<
         // Such a cell has no room for a frame: only which question refuses it is open.
         return measure(0, 0, parts);
     }
-    write(&mut memory[place..place + CELL], 0, parts)
+    write_in_cell(memory, place, parts)
 }

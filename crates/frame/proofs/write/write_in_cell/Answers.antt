@@ -6,14 +6,14 @@ use Rattle.frame.specs.Writing.{cell_room, frame_of, put_at, write_answer}
 use Rattle.frame.proofs.Back.{size_of_lem}
 use Rattle.frame.proofs.Placed.{cell as lend}
 use Rattle.frame.proofs.Room.{in_a_cell, length_is}
-use Rattle.frame.proofs.write.write_cell.Goals as goal
+use Rattle.frame.proofs.write.write_in_cell.Goals as goal
 
 pub returns-clause-after : goal.returns-clause-after
 returns-clause-after c =
     let m = c.args.memory.now in
     let a = c.args.place in
     let q = picture c.args.parts.now in
-    let i : a + 1518 ≤ length m = grind (arith, nat_tests) in
+    let i : a + 1518 ≤ length m = c.requires in
     let r : cell_room (length m) a ≡ 1518 = grind (arith, nat_tests) in
     let k : (a + 1518) - a ≡ 1518 = omega arith in
     let l : length (take 1518 (drop a m)) ≡ 1518 = simp (length-take, length-drop) (omega arith) in
