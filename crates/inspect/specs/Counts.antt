@@ -4,6 +4,7 @@
 use Rattle.std.specs.Prelude.{ℕ, ◌+◌, ◌-◌, ◌^◌, min, cond, List, length, replicate, Some, None, Ok, Err, Option, Result, ◌==◌, slice_index, slice_set}
 use Rattle.fault.specs.Told.{told}
 use Rattle.fault.specs.declared.refusal.Refusal.{Refusal}
+use Rattle.fault.specs.declared.refusal.TheConstants.{REFUSALS}
 use Rattle.frame.specs.Reading.{Picture, parse}
 use Rattle.frame.specs.declared.parts.Tag.{Tag}
 use Rattle.inspect.specs.Text.{bytes_in}
@@ -33,7 +34,7 @@ abbrev pub line_outcome : List ℕ → Option Outcome
 line_outcome text = line_as (bytes_in text)
 
 abbrev pub nothing : Summary
-nothing = record { tagged = 0; untagged = 0; refused = replicate 38 0; malformed = 0 }
+nothing = record { tagged = 0; untagged = 0; refused = replicate (REFUSALS + 1) 0; malformed = 0 }
 
 abbrev pub more : ℕ → ℕ
 more n = min (n + 1) (2 ^ 64 - 1)
@@ -43,9 +44,8 @@ abbrev pub more_at : ℕ → List ℕ → List ℕ
 more_at n counts = slice_set counts n (more (slice_index counts n))
 
 -- the counts after one more line
-abbrev pub counted : Summary → Outcome → Summary
-counted s Tagged = record { tagged = more s.tagged; untagged = s.untagged; refused = s.refused; malformed = s.malformed }
-counted s Untagged = record { tagged = s.tagged; untagged = more s.untagged; refused = s.refused; malformed = s.malformed }
-counted s (Refused refusal) =
-    record { tagged = s.tagged; untagged = s.untagged; refused = more_at (told refusal).number s.refused; malformed = s.malformed }
-counted s Malformed = record { tagged = s.tagged; untagged = s.untagged; refused = s.refused; malformed = more s.malformed }
+abbrev pub summary_after : Summary → Outcome → Summary
+summary_after s Tagged = record s { tagged = more s.tagged }
+summary_after s Untagged = record s { untagged = more s.untagged }
+summary_after s (Refused refusal) = record s { refused = more_at (told refusal).number s.refused }
+summary_after s Malformed = record s { malformed = more s.malformed }

@@ -20,16 +20,15 @@ digit_of c =
     (cond (within 97 102 c) (Some (c - 97 + 10)) None))
 
 abbrev pub joined : Option ℕ → Option ℕ → Option ℕ
-joined None low = None
-joined (Some h) None = None
-joined (Some h) (Some l) = Some (h * 16 + l)
+joined (Some high) (Some low) = Some (high * 16 + low)
+joined high low = None
 
 abbrev pub pair_of : ℕ → ℕ → Option ℕ
 pair_of high low = joined (digit_of high) (digit_of low)
 
 -- space, tab, carriage return, '-' and ':'
-abbrev pub between : ℕ → Bool
-between c = c == 32 || (c == 9 || (c == 13 || (c == 45 || c == 58)))
+abbrev pub separates : ℕ → Bool
+separates c = c == 32 || (c == 9 || (c == 13 || (c == 45 || c == 58)))
 
 abbrev pub begun : ℕ → ℕ → Option ℕ → Result Step Malformed
 begun place c None = Err (NoDigit place)
@@ -41,13 +40,13 @@ ended place (Some b) = Ok (Whole b)
 
 -- what a character does at its place, given the first digit that waits there for its second, if one does
 abbrev pub step_of : ℕ → Option ℕ → ℕ → Result Step Malformed
-step_of place None c = cond (c == 35) (Ok Comment) (cond (between c) (Ok Pass) (begun place c (digit_of c)))
+step_of place None c = cond (c == 35) (Ok Comment) (cond (separates c) (Ok Pass) (begun place c (digit_of c)))
 step_of place (Some high) c = ended place (pair_of high c)
 
 -- more bytes in front
-abbrev pub after : List ℕ → Result (List ℕ) Malformed → Result (List ℕ) Malformed
-after front (Ok bytes) = Ok (front ++ bytes)
-after front (Err e) = Err e
+abbrev pub prefixed : List ℕ → Result (List ℕ) Malformed → Result (List ℕ) Malformed
+prefixed front (Ok bytes) = Ok (front ++ bytes)
+prefixed front (Err e) = Err e
 
 -- what a line gives that ends at this place
 abbrev pub end_of : ℕ → Option ℕ → Result (List ℕ) Malformed
@@ -58,7 +57,7 @@ end_of place (Some high) = Err (NoSecondDigit place)
 abbrev pub follow : Result Step Malformed → (Option ℕ → Result (List ℕ) Malformed) → Result (List ℕ) Malformed
 follow (Ok Pass) on = on None
 follow (Ok (Half c)) on = on (Some c)
-follow (Ok (Whole b)) on = after (b ∷ []) (on None)
+follow (Ok (Whole b)) on = prefixed (b ∷ []) (on None)
 follow (Ok Comment) on = Ok []
 follow (Err e) on = Err e
 

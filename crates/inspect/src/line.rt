@@ -1,4 +1,8 @@
-// A line of hexadecimal text as the bytes of a frame.
+//! A line of hexadecimal text as the bytes of a frame.
+//!
+//! A byte is written as a pair of digits, side by side. Spaces, tabs, carriage returns, `-` and `:` may stand between
+//! pairs, and `#` begins a comment. Places in a line are in bytes and count from 0; people are shown columns, from 1
+//! on.
 ghost use Rattle.std.specs.Prelude.{◌≡◌, IfErr, IfOk, alloc_error};
 ghost use Rattle.inspect.specs.Text.{Explains, bytes_in, digit_of, pair_of, step_of};
 ghost use Rattle.inspect.specs.declared.line.LineError.TheVariants as bad;
@@ -6,22 +10,24 @@ ghost use Rattle.inspect.specs.declared.line.LineError.TheVariants as bad;
 use std::alloc::{AllocError, AllocFailed, Global};
 use thiserror::Error;
 
-// Why a line stands for no bytes. Places count from 0.
+/// Why a line stands for no bytes: the first thing that is wrong in it. The field is the place.
 #[derive(Clone, Copy, PartialEq, Eq, Debug, Drop, Error)]
 pub enum Malformed {
-    // A pair should begin here.
+    /// A pair should begin here, and no hexadecimal digit stands here.
     #[error("column {} holds no hexadecimal digit", .0.saturating_add(1))]
     NoDigit(usize),
-    // A pair should end here.
+    /// A pair should end here, and no hexadecimal digit stands here, or the line ends.
     #[error("column {} lacks the second digit of a pair", .0.saturating_add(1))]
     NoSecondDigit(usize),
 }
 
-// Why a line gives no bytes.
+/// Why a line gives no bytes.
 #[derive(Debug, Drop, Error)]
 pub enum LineError {
+    /// It stands for none.
     #[error(transparent)]
     Malformed(Malformed),
+    /// There was no memory for them.
     #[error(transparent)]
     Memory(AllocError),
 }
@@ -43,18 +49,21 @@ impl<T: Drop> From<AllocFailed<T>> for LineError {
     }
 }
 
-// What one character does. An enum and no closures, since the definition of a line goes by these steps.
+/// What one character of a line does.
+// An enum and no closures, since the definition of a line goes by these steps.
 #[derive(Clone, Copy, PartialEq, Eq, Debug, Drop)]
 pub enum Step {
+    /// It stands between pairs, and is passed over.
     Pass,
-    // The first digit of a pair.
+    /// It is the first digit of a pair: the digit as it stands in the line.
     Half(u8),
-    // The value of a pair, at its second digit.
+    /// It is the second digit of a pair: the value of the pair, which is a byte of the frame.
     Whole(u8),
+    /// It begins a comment, so that the line's bytes end before it.
     Comment,
 }
 
-// The value of a hexadecimal digit.
+/// The value of a hexadecimal digit, 0 to 15, or `None` for any other character.
 pub fn digit(text: u8) -> Option<u8>
     ensures { result ≡ digit_of text }
 {
@@ -66,14 +75,15 @@ pub fn digit(text: u8) -> Option<u8>
     }
 }
 
-// The value of two digits, the higher one first.
+/// The value of two hexadecimal digits, the higher one first, or `None` where one is none.
 pub fn pair(high: u8, low: u8) -> Option<u8>
     ensures { result ≡ pair_of high low }
 {
     Some(digit(high)? * 16 + digit(low)?)
 }
 
-// What the character at a place does, where the first digit of a pair may be waiting for its second.
+/// What the character at a place does, where the first digit of a pair may be waiting for its second. A waiting digit
+/// is refused if this is no second one, and at other times a character that may not begin anything is.
 pub fn classify(place: usize, waiting: Option<u8>, text: u8) -> Result<Step, Malformed>
     ensures { result ≡ step_of place waiting text }
 {
@@ -89,7 +99,7 @@ pub fn classify(place: usize, waiting: Option<u8>, text: u8) -> Result<Step, Mal
     }
 }
 
-// The bytes that a line stands for: none for a blank line or a comment.
+/// The bytes that a line stands for: none for a blank line or a comment. The line comes without its end.
 pub fn parse(heap: Global, text: &[u8]) -> Result<Vec<u8>, LineError>
     ensures bytes { IfOk result (λ frame. bytes_in text.now ≡ Ok frame.items) }
     ensures malformed { IfErr result (Explains text.now) }

@@ -1,5 +1,5 @@
-// Says of each line of hexadecimal text which frame it is, and how many of each kind there were.
-// Reads the file that its first argument names, or standard input where there is none.
+//! Says of each line of hexadecimal text which frame it is, and how many of each kind there were.
+//! Reads the file that its first argument names, or standard input where there is none.
 #![tactic(auto)]
 
 mod line;

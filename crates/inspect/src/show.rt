@@ -1,4 +1,4 @@
-// What is printed of a line.
+//! What is printed of a line.
 ghost use Rattle.std.specs.Prelude.{◌≡◌, IfOk};
 ghost use Rattle.inspect.specs.Counts.{line_outcome, outcome_of};
 
@@ -70,7 +70,8 @@ fn frame(rt: &HostRuntime, line: usize, bytes: &[u8]) -> io::Result<Outcome>
     Ok(Outcome::of_frame(bytes))
 }
 
-// Prints what a line is, and answers its kind; one that stands for no bytes is passed over.
+/// Prints what the line with this number is, and answers its kind. A blank line or a comment prints nothing and has
+/// none. An `Err` is one of memory or of printing.
 pub fn line(rt: &HostRuntime, number: usize, text: &[u8]) -> io::Result<Option<Outcome>>
     ensures { IfOk result (λ outcome. outcome ≡ line_outcome text.now) }
 {

@@ -1,24 +1,31 @@
-// How many lines there were of each kind.
+//! How many lines there were of each kind.
 ghost use Rattle.std.specs.Prelude.{◌≡◌};
-ghost use Rattle.inspect.specs.Counts.{nothing, counted};
+ghost use Rattle.inspect.specs.Counts.{nothing, summary_after};
 
 use crate::outcome::Outcome;
+use fault::refusal::REFUSALS;
 use std::fmt;
 
-// Refusals have the numbers 1 to 37; each is counted at the index of its number. In an array counting needs no memory, so it
-// cannot fail, as it could with a map.
-const NUMBERS: usize = 38;
+// Refusals are numbered from 1 on, and no refusal is 0.
+const NUMBERS: usize = REFUSALS as usize + 1;
 
+/// How many lines there were of each kind. A count that has reached the largest number there is stays there.
 #[derive(Clone, Copy, PartialEq, Eq, Debug, Drop)]
 pub struct Summary {
+    /// Frames with a tag.
     pub tagged: usize,
+    /// Frames without one.
     pub untagged: usize,
+    /// Refused frames, each at the index of the refusal's number; none is at 0.
+    // In an array counting needs no memory, so it cannot fail, as it could with a map.
     pub refused: [usize; NUMBERS],
+    /// Lines that are written wrongly.
     pub malformed: usize,
 }
 
 impl Summary {
-    // Nothing counted yet. No derived `Default`: what one says of an array does not prove `nothing`.
+    /// Nothing counted yet.
+    // No derived `Default`: what one says of an array does not prove `nothing`.
     pub fn new() -> Summary
         ensures { result ≡ nothing }
     {
@@ -30,9 +37,9 @@ impl Summary {
         }
     }
 
-    // Counts one line.
+    /// Counts one more line.
     pub fn count(&mut self, outcome: Outcome)
-        ensures { self.new ≡ counted self.old outcome }
+        ensures { self.new ≡ summary_after self.old outcome }
     {
         match outcome {
             Outcome::Tagged => self.tagged = self.tagged.saturating_add(1),
