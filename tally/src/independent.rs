@@ -1,6 +1,6 @@
-//! A second reader, written from `docs/FRAMES.md` alone, to hold the proved one against. It shares
-//! neither code nor shape with that one: it answers all four questions at once, a bit for each no,
-//! and the lowest bit is the first no.
+//! A second reader, written from `docs/FRAMES.md` and the one number of `docs/C-API.md` alone, to hold
+//! the proved one against. It shares neither code nor shape with that one: it answers all four
+//! questions at once, a bit for each no, and the lowest bit is the first no.
 
 /// The number of the first question. The others follow it without a gap.
 const FIRST_QUESTION: u32 = 4;

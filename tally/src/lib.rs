@@ -8,14 +8,26 @@ unsafe extern "C" {
     fn bridge_read_frame(frame: *const u8, length: usize) -> u32;
 }
 
+/// How many refusals there are. They are numbered from 1 on without a gap; `docs/REFUSALS.md` lists them.
+pub const REFUSALS: u8 = 37;
+
+/// In the one number of a frame: the bit that says that it is tagged, and those of its VID.
+const TAGGED: u32 = 0x8000;
+const VID_BITS: u32 = 0x0FFF;
+
 /// What reading says of a frame.
 #[derive(Clone, Copy, Debug, PartialEq, Eq)]
 pub enum Reading {
-    /// A frame with a tag. VID 0 gives a priority and names no VLAN.
-    Tagged { vid: u16, priority: u8 },
+    /// A frame with a tag.
+    Tagged {
+        /// 0 to 4,094; 0 names no VLAN.
+        vid: u16,
+        /// 0 to 7.
+        priority: u8,
+    },
     /// A frame without a tag.
     Untagged,
-    /// No frame: the number of the question that was answered no, as in `docs/REFUSALS.md`.
+    /// No frame: the number of the question that was answered no, 1 to [`REFUSALS`].
     Refused(u8),
 }
 
@@ -25,11 +37,13 @@ impl Reading {
         let (high, low) = (number >> 16, number & 0xFFFF);
         match (high, low) {
             (0, 0) => Some(Reading::Untagged),
-            (0, 0x8000..) if low & 0x0FFF != 0x0FFF => Some(Reading::Tagged {
-                vid: (low & 0x0FFF) as u16,
+            (0, TAGGED..) if low & VID_BITS != VID_BITS => Some(Reading::Tagged {
+                vid: (low & VID_BITS) as u16,
                 priority: (low >> 12 & 7) as u8,
             }),
-            (1..=0xFF, 0) => Some(Reading::Refused(high as u8)),
+            (_, 0) if (1..=u32::from(REFUSALS)).contains(&high) => {
+                Some(Reading::Refused(high as u8))
+            }
             _ => None,
         }
     }
@@ -78,6 +92,10 @@ mod tests {
             })
         );
         assert_eq!(Reading::from_number(458_752), Some(Reading::Refused(7)));
+        assert_eq!(
+            Reading::from_number(u32::from(REFUSALS) << 16),
+            Some(Reading::Refused(REFUSALS))
+        );
         for number in [
             1,
             10,
@@ -87,6 +105,7 @@ mod tests {
             65_537,
             458_753,
             u32::MAX,
+            u32::from(REFUSALS + 1) << 16,
             256 << 16,
         ] {
             assert_eq!(Reading::from_number(number), None, "{number}");

@@ -45,13 +45,13 @@ fn lay(frame: &mut [u8], at: usize, bytes: &[u8]) {
 }
 
 /// Lays 81 00 over bytes 12 and 13, with one of their sixteen bits turned where `turned` is below 16.
-fn lay_mark(frame: &mut [u8], turned: usize) {
-    let mark = if turned < 16 {
+fn lay_sign(frame: &mut [u8], turned: usize) {
+    let sign = if turned < 16 {
         0x8100 ^ 1 << turned
     } else {
         0x8100_u16
     };
-    lay(frame, 12, &mark.to_be_bytes());
+    lay(frame, 12, &sign.to_be_bytes());
 }
 
 fn lay_tag(frame: &mut [u8], priority: u16, cfi: u16, vid: u16) {
@@ -68,9 +68,9 @@ fn each_length(mut look: impl FnMut(&[u8])) {
         for round in 0..ROUNDS_PER_LENGTH {
             random.fill(frame);
             match round % 4 {
-                0 => lay_mark(frame, random.below(16)),
+                0 => lay_sign(frame, random.below(16)),
                 1 => {}
-                _ => lay_mark(frame, 16),
+                _ => lay_sign(frame, 16),
             }
             let edge = EDGE_VIDS[random.below(EDGE_VIDS.len())];
             let vid = if random.below(2) == 0 {
@@ -93,7 +93,7 @@ fn each_edge(mut look: impl FnMut(&[u8])) {
         let frame = &mut memory[..length];
         random.fill(frame);
         for turned in 0..=16 {
-            lay_mark(frame, turned);
+            lay_sign(frame, turned);
             for priority in 0..8 {
                 for cfi in 0..2 {
                     for vid in EDGE_VIDS {
@@ -109,7 +109,7 @@ fn each_edge(mut look: impl FnMut(&[u8])) {
 /// Every one of the 65,536 tags, in frames of 60 bytes.
 fn each_tag(mut look: impl FnMut(&[u8])) {
     let mut frame = [0x5A; 60];
-    lay_mark(&mut frame, 16);
+    lay_sign(&mut frame, 16);
     for tag in 0..=u16::MAX {
         lay(&mut frame, 14, &tag.to_be_bytes());
         look(&frame);
@@ -201,8 +201,8 @@ struct Rules {
     shortest: usize,
     longest_untagged: usize,
     longest_tagged: usize,
-    mark: [u8; 2],
-    mark_mask: [u8; 2],
+    sign: [u8; 2],
+    sign_mask: [u8; 2],
     reserved_vid: u16,
     asks_cfi: bool,
     cfi_before_vid: bool,
@@ -213,8 +213,8 @@ const RIGHT: Rules = Rules {
     shortest: 60,
     longest_untagged: 1_514,
     longest_tagged: 1_518,
-    mark: [0x81, 0x00],
-    mark_mask: [0xFF, 0xFF],
+    sign: [0x81, 0x00],
+    sign_mask: [0xFF, 0xFF],
     reserved_vid: 4_095,
     asks_cfi: true,
     cfi_before_vid: false,
@@ -223,7 +223,7 @@ const RIGHT: Rules = Rules {
 
 fn read_by(rules: Rules, frame: &[u8]) -> u32 {
     let at = |place| frame.get(place).copied().unwrap_or(0);
-    let tagged = (0..2).all(|i| (at(12 + i) ^ rules.mark[i]) & rules.mark_mask[i] == 0);
+    let tagged = (0..2).all(|i| (at(12 + i) ^ rules.sign[i]) & rules.sign_mask[i] == 0);
     let tag = u16::from_be_bytes([at(14), at(15)]);
     let longest = if tagged {
         rules.longest_tagged
@@ -304,23 +304,23 @@ fn wrong_readers_are_found() {
             },
         ),
         (
-            "mark 81 01",
+            "sign 81 01",
             Rules {
-                mark: [0x81, 0x01],
+                sign: [0x81, 0x01],
                 ..RIGHT
             },
         ),
         (
             "a bit of byte 12 not looked at",
             Rules {
-                mark_mask: [0xFE, 0xFF],
+                sign_mask: [0xFE, 0xFF],
                 ..RIGHT
             },
         ),
         (
             "byte 13 not looked at",
             Rules {
-                mark_mask: [0xFF, 0x00],
+                sign_mask: [0xFF, 0x00],
                 ..RIGHT
             },
         ),
