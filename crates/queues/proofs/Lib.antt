@@ -1,0 +1,10 @@
+pub mod Cells
+pub mod Changed
+pub mod Meaning
+pub mod Within
+pub mod Counts
+pub mod Fresh
+pub mod Kept
+pub mod Laid
+pub mod Taken
+pub mod Emptied

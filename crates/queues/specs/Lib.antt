@@ -1,0 +1,4 @@
+pub mod Rings
+pub mod Standing
+pub mod Laying
+pub mod Taking
