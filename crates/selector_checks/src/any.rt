@@ -1,5 +1,5 @@
 // What holds of every selector, tried at both.
-use crate::sets::{ALL, only, picks};
+use crate::standing::{ALL, only, picks};
 use selector::picking::next_class;
 use selector::selector::Selector;
 use selector::strict::StrictPriority;

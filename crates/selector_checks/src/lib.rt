@@ -4,7 +4,7 @@
 #[cfg(test)]
 mod any;
 #[cfg(test)]
-mod sets;
+mod standing;
 #[cfg(test)]
 mod strict;
 #[cfg(test)]

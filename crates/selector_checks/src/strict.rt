@@ -1,4 +1,4 @@
-use crate::sets::{ALL, picks};
+use crate::standing::{ALL, picks};
 use selector::strict::StrictPriority;
 use sets_checks::words::has;
 use std::test::Fail;

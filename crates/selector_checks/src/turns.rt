@@ -1,4 +1,4 @@
-use crate::sets::{ALL, only, picks};
+use crate::standing::{ALL, only, picks};
 use selector::selector::Selector;
 use selector::turns::TakingTurns;
 use sets_checks::words::{has, set_of};
