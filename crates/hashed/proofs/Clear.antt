@@ -11,7 +11,7 @@ use Rattle.table.specs.declared.entry.Entry.{Entry}
 use Rattle.table.specs.Entries.{is_fid, has_key, lookup, count_of}
 use Rattle.table.specs.Rising.{rising}
 use Rattle.table.specs.Calls.{learned_mark, after_learn}
-use Rattle.table.specs.Records.{distinct, rewritten, Orderly}
+use Rattle.table.specs.Records.{distinct, written_over, Orderly}
 use Rattle.table.proofs.Records.{count_flush, has_pair_front, orderly_written, orderly_in}
 use Rattle.table.proofs.Implement.{mark_is, over_is, new_is, full_is}
 use Rattle.hashed.specs.Stretch.{Learned}
@@ -64,11 +64,11 @@ distinct_mid l m n d = distinct_front m n (distinct_back l (m ++ n) d)
 
 -- an entry of the middle is written anew
 
-written_past : (f : ℕ) (a : List ℕ) (p t : ℕ) (l m : List Entry) → count_of f l ≡ 0 → rewritten (l ++ m) f a p t ≡ l ++ rewritten m f a p t
+written_past : (f : ℕ) (a : List ℕ) (p t : ℕ) (l m : List Entry) → count_of f l ≡ 0 → written_over (l ++ m) f a p t ≡ l ++ written_over m f a p t
 written_past f a p t [] m h = refl
 written_past f a p t (e ∷ l) m h = grind (arith, nat_tests, written_past f a p t l m)
 
-written_before : (f : ℕ) (a : List ℕ) (p t : ℕ) (m n : List Entry) (old : Entry) → lookup m f a ≡ Some old → rewritten (m ++ n) f a p t ≡ rewritten m f a p t ++ n
+written_before : (f : ℕ) (a : List ℕ) (p t : ℕ) (m n : List Entry) (old : Entry) → lookup m f a ≡ Some old → written_over (m ++ n) f a p t ≡ written_over m f a p t ++ n
 written_before f a p t [] n old h = cc
 written_before f a p t (e ∷ m) n old h = grind (arith, nat_tests, written_before f a p t m n old)
 
@@ -84,7 +84,7 @@ regroup a b c d = simp append_assoc
 pub learned : (share : ℕ) (l m front was is back : List Entry) (e : Entry) (r : Mark) → l ≡ front ++ (was ++ back) → m ≡ front ++ (is ++ back) → count_of e.key.fid front ≡ 0 → count_of e.key.fid back ≡ 0 → count_of e.key.fid was ≡ length was → is_fid e.key.fid ≡ true → Orderly share l → Learned share was is e r → Whole share l m e r
 learned share l m front was is back e r le me p q own fid o (over old look re re') =
     let lk : lookup l e.key.fid e.key.address ≡ Some old = ap (λ x. lookup x e.key.fid e.key.address) le ∙ look_mid e.key.fid e.key.address front was back p q ∙ look in
-    let w : m ≡ rewritten l e.key.fid e.key.address e.port e.heard = me ∙ ap (λ x. front ++ (x ++ back)) re ∙ sym (ap (λ x. rewritten x e.key.fid e.key.address e.port e.heard) le ∙ written_past e.key.fid e.key.address e.port e.heard front (was ++ back) p ∙ ap (λ x. front ++ x) (written_before e.key.fid e.key.address e.port e.heard was back old look)) in
+    let w : m ≡ written_over l e.key.fid e.key.address e.port e.heard = me ∙ ap (λ x. front ++ (x ++ back)) re ∙ sym (ap (λ x. written_over x e.key.fid e.key.address e.port e.heard) le ∙ written_past e.key.fid e.key.address e.port e.heard front (was ++ back) p ∙ ap (λ x. front ++ x) (written_before e.key.fid e.key.address e.port e.heard was back old look)) in
     record {
       mark = mark_is share l e.key.fid e.key.address e.port (Some old) r o fid lk (sym re');
       later = over_is share l m e.key.fid e.key.address e.port e.heard old fid lk w;

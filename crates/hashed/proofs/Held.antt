@@ -4,7 +4,7 @@ use Rattle.std.proofs.lemmas.Bool.Decides.{nat_tests}
 use Rattle.table.specs.declared.entry.Entry.{Entry}
 use Rattle.table.specs.Entries.{new_entry, free_entry, is_free, has_key, lookup, count_of}
 use Rattle.table.specs.Calls.{heard_after}
-use Rattle.table.specs.Records.{held_of, has_pair, distinct, rewritten}
+use Rattle.table.specs.Records.{held_of, has_pair, distinct, written_over}
 use Rattle.table.proofs.Records.{key_is}
 use Rattle.slots.specs.Sweep.{heard_later}
 
@@ -31,12 +31,12 @@ hit_look (e ∷ es) zero f a d lo lt k = grind (arith, nat_tests)
 hit_look (e ∷ es) (suc i) f a d lo lt k = grind (arith, nat_tests, hit_look es i f a, holds_here es i f a lo (omega arith) k, others e (held_of es) f a)
 
 -- an entry written over that of its pair
-pub over_held : (xs : List Entry) (i f : ℕ) (a : List ℕ) (p t : ℕ) → distinct (held_of xs) ≡ true → 1 ≤ f → i < length xs → has_key f a (get_or xs i free_entry) ≡ true → held_of (set xs i (new_entry f a p t)) ≡ rewritten (held_of xs) f a p t
+pub over_held : (xs : List Entry) (i f : ℕ) (a : List ℕ) (p t : ℕ) → distinct (held_of xs) ≡ true → 1 ≤ f → i < length xs → has_key f a (get_or xs i free_entry) ≡ true → held_of (set xs i (new_entry f a p t)) ≡ written_over (held_of xs) f a p t
 over_held [] i f a p t d lo lt k = absurd (omega arith)
 over_held (e ∷ es) zero f a p t d lo lt k = grind (arith, nat_tests)
 over_held (e ∷ es) (suc i) f a p t d lo lt k = grind (arith, nat_tests, over_held es i f a p t, holds_here es i f a lo (omega arith) k, others e (held_of es) f a)
 
-pub length_rewritten : (l : List Entry) (f : ℕ) (a : List ℕ) (p t : ℕ) → length (rewritten l f a p t) ≡ length l
+pub length_rewritten : (l : List Entry) (f : ℕ) (a : List ℕ) (p t : ℕ) → length (written_over l f a p t) ≡ length l
 length_rewritten [] f a p t = refl
 length_rewritten (e ∷ es) f a p t = grind (arith, nat_tests, length_rewritten es f a p t)
 

@@ -6,7 +6,7 @@ use Rattle.fault.specs.declared.mark.Mark.TheVariants.{New, Full}
 use Rattle.table.specs.declared.entry.Entry.{Entry}
 use Rattle.table.specs.Entries.{is_free, free_entry, lookup}
 use Rattle.table.specs.Calls.{again}
-use Rattle.table.specs.Records.{held_of, rewritten}
+use Rattle.table.specs.Records.{held_of, written_over}
 use Rattle.slots.specs.declared.measure.Bounds.{Bounds}
 use Rattle.slots.specs.Measure.{AllNear, Within}
 
@@ -25,6 +25,6 @@ pub record Kept (f : ℕ) (xs : List Entry) (b : Bounds) : Type 0 where
 
 -- How learning an entry alters the entries l of its database into m, and the mark r that it answers.
 pub data Learned (share : ℕ) (l m : List Entry) (e : Entry) (r : Mark) : Type 0 where
-  over : (old : Entry) → lookup l e.key.fid e.key.address ≡ Some old → m ≡ rewritten l e.key.fid e.key.address e.port e.heard → r ≡ again old.port e.port → Learned share l m e r
+  over : (old : Entry) → lookup l e.key.fid e.key.address ≡ Some old → m ≡ written_over l e.key.fid e.key.address e.port e.heard → r ≡ again old.port e.port → Learned share l m e r
   added : (k n : List Entry) → l ≡ k ++ n → m ≡ k ++ e ∷ n → lookup l e.key.fid e.key.address ≡ None → length l < share → r ≡ New → Learned share l m e r
   full : m ≡ l → lookup l e.key.fid e.key.address ≡ None → share ≤ length l → r ≡ Full → Learned share l m e r

@@ -6,15 +6,15 @@ use Rattle.std.specs.Option.{unwrap_or}
 use Rattle.table.specs.declared.entry.Entry.{Entry}
 use Rattle.table.specs.Entries.{new_entry, has_key}
 use Rattle.table.specs.Calls.{heard_after}
-use Rattle.table.specs.Records.{rewritten}
+use Rattle.table.specs.Records.{written_over}
 use Rattle.searched.specs.Records.{oldest_of}
 
-pub oldest_written : (l m : List Entry) (f : ℕ) (a : List ℕ) (p t o r : ℕ) → m ≡ rewritten l f a p t → o ≤ oldest_of l → r ≡ min o t → r ≤ oldest_of m
+pub oldest_written : (l m : List Entry) (f : ℕ) (a : List ℕ) (p t o r : ℕ) → m ≡ written_over l f a p t → o ≤ oldest_of l → r ≡ min o t → r ≤ oldest_of m
 oldest_written l m f a p t o r e h k = omega (arith, ap oldest_of e, go l)
   where
-    go : (l : List Entry) → min (oldest_of l) t ≤ oldest_of (rewritten l f a p t)
+    go : (l : List Entry) → min (oldest_of l) t ≤ oldest_of (written_over l f a p t)
     go [] = omega arith
-    go (e ∷ es) = let i = go es in elim (has_key f a e) as (λ b. min (min e.heard (oldest_of es)) t ≤ oldest_of (cond b (new_entry f a p t ∷ es) (e ∷ rewritten es f a p t))) [ true ↦ omega arith | false ↦ omega (arith, i) ]
+    go (e ∷ es) = let i = go es in elim (has_key f a e) as (λ b. min (min e.heard (oldest_of es)) t ≤ oldest_of (cond b (new_entry f a p t ∷ es) (e ∷ written_over es f a p t))) [ true ↦ omega arith | false ↦ omega (arith, i) ]
 
 pub oldest_push : (l m : List Entry) (x : Entry) (o r : ℕ) → m ≡ l ++ x ∷ [] → o ≤ oldest_of l → r ≡ min o x.heard → r ≤ oldest_of m
 oldest_push l m x o r e h k = omega (arith, ap oldest_of e, go l)

@@ -7,7 +7,7 @@ use Rattle.std.specs.List.{position, position_or_len}
 use Rattle.std.specs.Option.{option_map}
 use Rattle.table.specs.declared.entry.Entry.{Entry}
 use Rattle.table.specs.Entries.{new_entry, has_key, lookup, entries_of, count_of}
-use Rattle.table.specs.Records.{rewritten}
+use Rattle.table.specs.Records.{written_over}
 use Rattle.table.specs.Rising.{insert, rising}
 use Rattle.table.proofs.Records.{has_pair_some}
 use Rattle.table.proofs.Rising.{look_rising, count_rising, rising_written}
@@ -27,11 +27,11 @@ pub looked : (l : List Entry) (f : ℕ) (a : List ℕ) (d : Entry) {r o : Option
 looked l f a d was place = look_rising l f a ∙ placed l f a d ∙ ap (option_map (λ i. get_or l i d)) (sym place ∙ was)
 
 -- an entry over that of its pair: where there is none, its place is past the end
-written : (l : List Entry) (f : ℕ) (a : List ℕ) (p t : ℕ) → rewritten l f a p t ≡ set l (position_or_len (has_key f a) l) (new_entry f a p t)
+written : (l : List Entry) (f : ℕ) (a : List ℕ) (p t : ℕ) → written_over l f a p t ≡ set l (position_or_len (has_key f a) l) (new_entry f a p t)
 written [] f a p t = refl
 written (e ∷ es) f a p t = grind (arith, written es f a p t)
 
-pub written_at : (l : List Entry) (f : ℕ) (a : List ℕ) (p t : ℕ) {i : ℕ} {r : Option ℕ} → r ≡ Some i → r ≡ position (has_key f a) l → set l i (new_entry f a p t) ≡ rewritten l f a p t
+pub written_at : (l : List Entry) (f : ℕ) (a : List ℕ) (p t : ℕ) {i : ℕ} {r : Option ℕ} → r ≡ Some i → r ≡ position (has_key f a) l → set l i (new_entry f a p t) ≡ written_over l f a p t
 written_at l f a p t was place = sym (written l f a p t ∙ ap (λ k. set l k (new_entry f a p t)) (cond_some _ _ _ (sym place ∙ was)).1)
 
 pub renewed_at : (l : List Entry) (f : ℕ) (a : List ℕ) (p t : ℕ) {i : ℕ} {r : Option ℕ} → r ≡ Some i → r ≡ position (has_key f a) l → rising (set l i (new_entry f a p t)) ≡ insert (new_entry f a p t) (rising l)

@@ -6,7 +6,7 @@ use Rattle.table.specs.declared.entry.Entry.{Entry}
 use Rattle.table.specs.Entries.{is_fid, new_entry, lookup, not_of_fid, count_of, fids_in_range}
 use Rattle.table.specs.Rising.{rising}
 use Rattle.table.specs.Calls.{mark_at, learned_mark, after_learn, flushed, after_flush}
-use Rattle.table.specs.Records.{distinct, has_pair, rewritten, Orderly}
+use Rattle.table.specs.Records.{distinct, has_pair, written_over, Orderly}
 use Rattle.table.proofs.Records.{distinct_kept, has_pair_some, has_pair_none, has_pair_front}
 use Rattle.table.proofs.Rising.{look_rising, count_rising, size_rising, kept_rising, range_rising, rising_in, rising_written}
 
@@ -22,7 +22,7 @@ pub mark_is : (share : ℕ) (l : List Entry) (f : ℕ) (a : List ℕ) (p : ℕ) 
 mark_is share l f a p o m d r e k = grind (arith, look_rising l f a, count_rising f l d.apart)
 
 -- the entry of the pair is written anew
-pub over_is : (share : ℕ) (l m : List Entry) (f : ℕ) (a : List ℕ) (p t : ℕ) (e : Entry) → is_fid f ≡ true → lookup l f a ≡ Some e → m ≡ rewritten l f a p t → rising m ≡ after_learn share (rising l) f a p t
+pub over_is : (share : ℕ) (l m : List Entry) (f : ℕ) (a : List ℕ) (p t : ℕ) (e : Entry) → is_fid f ≡ true → lookup l f a ≡ Some e → m ≡ written_over l f a p t → rising m ≡ after_learn share (rising l) f a p t
 over_is share l m f a p t e r h w = grind (arith, look_rising l f a, rising_written l f a p t (has_pair_some l f a e h))
 
 -- a new entry is written anywhere among them

@@ -11,7 +11,7 @@ use Rattle.std.proofs.lemmas.List.Sums.{length-filter}
 use Rattle.std.proofs.lemmas.Slice.Eq.{bytes_eq-Decides}
 use Rattle.table.specs.declared.entry.Entry.{Entry}
 use Rattle.table.specs.Entries.{is_fid, has_key, lookup, of_fid, not_of_fid, count_of, fids_in_range}
-use Rattle.table.specs.Records.{has_pair, distinct, rewritten, Orderly}
+use Rattle.table.specs.Records.{has_pair, distinct, written_over, Orderly}
 
 -- keys
 
@@ -76,19 +76,19 @@ in_kept p (e ∷ es) h = grind (arith, in_kept p es)
 
 -- an entry is written anew
 
-has_pair_written : (l : List Entry) (f : ℕ) (a : List ℕ) (p t g : ℕ) (b : List ℕ) → has_pair (rewritten l f a p t) g b ≡ has_pair l g b
+has_pair_written : (l : List Entry) (f : ℕ) (a : List ℕ) (p t g : ℕ) (b : List ℕ) → has_pair (written_over l f a p t) g b ≡ has_pair l g b
 has_pair_written [] f a p t g b = refl
 has_pair_written (e ∷ es) f a p t g b = grind (arith, has_pair_written es f a p t g b, key_is f a e)
 
-distinct_written : (l : List Entry) (f : ℕ) (a : List ℕ) (p t : ℕ) → distinct (rewritten l f a p t) ≡ distinct l
+distinct_written : (l : List Entry) (f : ℕ) (a : List ℕ) (p t : ℕ) → distinct (written_over l f a p t) ≡ distinct l
 distinct_written [] f a p t = refl
 distinct_written (e ∷ es) f a p t = grind (arith, distinct_written es f a p t, has_pair_written es f a p t e.key.fid e.key.address, key_is f a e)
 
-count_written : (l : List Entry) (f : ℕ) (a : List ℕ) (p t g : ℕ) → count_of g (rewritten l f a p t) ≡ count_of g l
+count_written : (l : List Entry) (f : ℕ) (a : List ℕ) (p t g : ℕ) → count_of g (written_over l f a p t) ≡ count_of g l
 count_written [] f a p t g = refl
 count_written (e ∷ es) f a p t g = grind (arith, count_written es f a p t g, key_is f a e)
 
-in_written : (l : List Entry) (f : ℕ) (a : List ℕ) (p t : ℕ) → fids_in_range (rewritten l f a p t) ≡ fids_in_range l
+in_written : (l : List Entry) (f : ℕ) (a : List ℕ) (p t : ℕ) → fids_in_range (written_over l f a p t) ≡ fids_in_range l
 in_written [] f a p t = refl
 in_written (e ∷ es) f a p t = grind (arith, in_written es f a p t, key_is f a e)
 
@@ -124,7 +124,7 @@ orderly_kept share p l m o e = record {
   fair = λ f. omega (arith, ap (count_of f) e, count_kept p f l, o.fair f);
 }
 
-pub orderly_written : (share : ℕ) (l m : List Entry) (f : ℕ) (a : List ℕ) (p t : ℕ) → Orderly share l → m ≡ rewritten l f a p t → Orderly share m
+pub orderly_written : (share : ℕ) (l m : List Entry) (f : ℕ) (a : List ℕ) (p t : ℕ) → Orderly share l → m ≡ written_over l f a p t → Orderly share m
 orderly_written share l m f a p t o e = record {
   ranged = ap fids_in_range e ∙ in_written l f a p t ∙ o.ranged;
   apart = ap distinct e ∙ distinct_written l f a p t ∙ o.apart;

@@ -5,7 +5,7 @@ use Rattle.std.specs.Option.{is_some}
 use Rattle.table.specs.declared.entry.Entry.{Entry}
 use Rattle.table.specs.Entries.{is_fid, new_entry, has_key, lookup, count_of, fids_in_range}
 use Rattle.table.specs.Rising.{order, insert, rising, comes_before, rises}
-use Rattle.table.specs.Records.{has_pair, distinct, rewritten}
+use Rattle.table.specs.Records.{has_pair, distinct, written_over}
 use Rattle.table.proofs.Order.{order_trans, order_key, key_order, order_left, order_right, order_more, order_less, order_eq}
 use Rattle.table.proofs.Records.{key_is, key_of, has_pair_is}
 
@@ -123,7 +123,7 @@ rising_in [] m x h = refl
 rising_in (y ∷ l) m x h = grind (arith, rising_in l m x, insert_comm y x (rising (l ++ m)), order_eq y x, absent x y l)
 
 -- an entry is written over the one under its key
-pub rising_written : (l : List Entry) (f : ℕ) (a : List ℕ) (p t : ℕ) → has_pair l f a ≡ true → rising (rewritten l f a p t) ≡ insert (new_entry f a p t) (rising l)
+pub rising_written : (l : List Entry) (f : ℕ) (a : List ℕ) (p t : ℕ) → has_pair l f a ≡ true → rising (written_over l f a p t) ≡ insert (new_entry f a p t) (rising l)
 rising_written [] f a p t h = grind arith
 rising_written (e ∷ es) f a p t h =
     let n = new_entry f a p t in

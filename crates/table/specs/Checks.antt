@@ -19,10 +19,10 @@ answer_of (Ok c) = Ok c.0.share
 answer_of (Err e) = Err e.refusal
 
 -- Where the memory is after the check.
-abbrev pub Handed : {each : ℕ} → ℕ → MutBor (List Entry) → Result (Checked each × MutBor (List Entry)) Refused → Type 0
-Handed taken records (Ok c) = (c.0.records.now ≡ take taken records.now) × (c.1.now ≡ drop taken records.now)
-Handed taken records (Err e) = e.records ≡ records
+abbrev pub HandsOn : {each : ℕ} → ℕ → MutBor (List Entry) → Result (Checked each × MutBor (List Entry)) Refused → Type 0
+HandsOn taken records (Ok c) = (c.0.records.now ≡ take taken records.now) × (c.1.now ≡ drop taken records.now)
+HandsOn taken records (Err e) = e.records ≡ records
 
 pub record Answers (each share : ℕ) (records : MutBor (List Entry)) (r : Result (Checked each × MutBor (List Entry)) Refused) : Type 0 where
   pub answer : answer_of r ≡ checked_share each share (length records.now)
-  pub memory : Handed (each * share) records r
+  pub memory : HandsOn (each * share) records r

@@ -22,9 +22,9 @@ distinct [] = true
 distinct (e ∷ es) = not (has_pair es e.key.fid e.key.address) && distinct es
 
 -- The entry of a pair is written anew, where it lies.
-abbrev pub rewritten : List Entry → ℕ → List ℕ → ℕ → ℕ → List Entry
-rewritten [] f a p t = []
-rewritten (e ∷ es) f a p t = cond (has_key f a e) (new_entry f a p t ∷ es) (e ∷ rewritten es f a p t)
+abbrev pub written_over : List Entry → ℕ → List ℕ → ℕ → ℕ → List Entry
+written_over [] f a p t = []
+written_over (e ∷ es) f a p t = cond (has_key f a e) (new_entry f a p t ∷ es) (e ∷ written_over es f a p t)
 
 -- What such a table keeps true of its entries.
 pub record Orderly (share : ℕ) (l : List Entry) : Type 0 where
