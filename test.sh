@@ -11,6 +11,7 @@ if grep -qE '^rt: ok\b.*, [1-9][0-9]* bad' "$log"; then
     echo "a planted mistake no longer fits the text that it changes" >&2
     exit 1
 fi
+tools/long-lines.sh
 ./run.sh | diff - crates/inspect/stdout
 ./c-library.sh
 (cd tally && cargo test --offline --release)
