@@ -64,25 +64,29 @@ abbrev pub no_static : Option StaticEntry → Bool
 no_static None = true
 no_static (Some e) = false
 
--- a VLAN
-abbrev pub vlan_asked : Bool → Settings → Vlan → Option Refusal
-vlan_asked started σ v =
-    ask (not started) AlreadyStarted
-    (ask (in_range 1 4094 v.vid) VidOutOfRange
+-- a VLAN: what is asked of it, by the number of ports and the VLANs that there are
+abbrev pub asked_of_vlan : ℕ → List Vlan → Vlan → Option Refusal
+asked_of_vlan ports vlans v =
+    ask (in_range 1 4094 v.vid) VidOutOfRange
     (ask (is_fid v.fid) FidOutOfRange
-    (ask (all_below v.members σ.ports sixteen) MemberOutOfRange
+    (ask (all_below v.members ports sixteen) MemberOutOfRange
     (ask (all_in v.untagged v.members sixteen) UntaggedNotMember
-    (ask (no_vlan (vlan_of σ.vlans v.vid)) AlreadyThere (ask (nat_lt (length σ.vlans) 64) TooMany None))))))
+    (ask (no_vlan (vlan_of vlans v.vid)) AlreadyThere (ask (nat_lt (length vlans) 64) TooMany None)))))
+
+abbrev pub vlan_asked : Bool → Settings → Vlan → Option Refusal
+vlan_asked started σ v = ask (not started) AlreadyStarted (asked_of_vlan σ.ports σ.vlans v)
 
 abbrev pub with_vlan : Settings → Vlan → Settings
 with_vlan σ v = record σ { vlans = σ.vlans ++ (v ∷ []) }
 
--- a static entry
+-- a static entry: what is asked of it, by the VLANs and the static entries that there are
+abbrev pub asked_of_static : List Vlan → List StaticEntry → StaticEntry → Option Refusal
+asked_of_static vlans statics e =
+    ask (not (no_vlan (vlan_of vlans e.vid))) VlanNotCreated
+    (ask (no_static (static_of statics e.vid e.address)) AlreadyThere (ask (nat_lt (length statics) 64) TooMany None))
+
 abbrev pub static_asked : Bool → Settings → StaticEntry → Option Refusal
-static_asked started σ e =
-    ask (not started) AlreadyStarted
-    (ask (not (no_vlan (vlan_of σ.vlans e.vid))) VlanNotCreated
-    (ask (no_static (static_of σ.statics e.vid e.address)) AlreadyThere (ask (nat_lt (length σ.statics) 64) TooMany None)))
+static_asked started σ e = ask (not started) AlreadyStarted (asked_of_static σ.vlans σ.statics e)
 
 abbrev pub with_static : Settings → StaticEntry → Settings
 with_static σ e = record σ { statics = σ.statics ++ (e ∷ []) }
