@@ -1,0 +1,5 @@
+pub mod Asking
+pub mod Entries
+pub mod Index
+pub mod Members
+pub mod Searches
