@@ -1,0 +1,4 @@
+//! A VLAN bridge, for every kind of filtering table and every transmission selector.
+#![tactic(auto)]
+
+pub mod port_state;
