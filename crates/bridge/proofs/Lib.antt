@@ -1,0 +1,2 @@
+pub mod Flushing
+pub mod States

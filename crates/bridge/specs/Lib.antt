@@ -1,1 +1,2 @@
 pub mod Refused
+pub mod Decided

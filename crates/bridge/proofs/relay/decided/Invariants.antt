@@ -1,0 +1,7 @@
+use Rattle.std.proofs.Common.{◌≡◌, map}
+use Rattle.sets.proofs.ByNumber.{tried}
+use Rattle.bridge.specs.Decided.{goes_to}
+use Rattle.bridge.proofs.relay.decided.Given as goal
+
+abbrev pub invariant-loop-index : goal.invariant-loop-index
+invariant-loop-index l = l.set ≡ tried (goes_to l.count (map (λ port. port.state) l.ports) l.from l.allowed) 16 l.index
