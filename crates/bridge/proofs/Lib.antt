@@ -1,2 +1,4 @@
 pub mod Flushing
 pub mod States
+pub mod Views
+pub mod Happening

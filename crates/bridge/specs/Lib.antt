@@ -1,2 +1,6 @@
 pub mod Refused
 pub mod Decided
+pub mod Kept
+pub mod View
+pub mod Making
+pub mod Told

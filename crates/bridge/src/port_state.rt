@@ -17,6 +17,19 @@ pub struct Port {
     pub state: PortState,
 }
 
+impl Port {
+    /// A port as it is when the bridge is made.
+    pub const FRESH: Port = Port {
+        settings: PortSettings {
+            pvid: 1,
+            admit_all: true,
+            ingress_filtering: false,
+            priority: 0,
+        },
+        state: PortState::Disabled,
+    };
+}
+
 /// The event of a number, 1 to 5. Another number is refused (19).
 pub fn event_of(number: u8) -> Result<PortEvent, Refusal>
     ensures { result ≡ or_refused UnknownEvent (event_of number) }

@@ -1,0 +1,24 @@
+-- What a call of the rules answers, by what the call of the bridge returned.
+use Rattle.std.specs.Prelude.{ℕ, List, take, Ok, Err, Result}
+use Rattle.fault.specs.declared.refusal.Refusal.{Refusal}
+use Rattle.rules.specs.declared.answers.Received.{Received}
+use Rattle.rules.specs.declared.answers.Sent.{Sent}
+use Rattle.rules.specs.Calls.{Answer, advanced, emptied, received, refused, sent}
+
+-- the answer of an accepted call, or the refusal
+abbrev pub told : {A : Type 0} → (A → Answer) → Result A Refusal → Answer
+told accepted (Ok a) = accepted a
+told accepted (Err e) = refused e
+
+abbrev pub told_received : Result Received Refusal → Answer
+told_received = told received
+
+-- the frame that was sent is the front of the output memory
+abbrev pub told_sent : Result Sent Refusal → List ℕ → Answer
+told_sent result output = told (λ x. sent x (take x.length output)) result
+
+abbrev pub told_advanced : {A : Type 0} → Result A Refusal → Answer
+told_advanced = told (λ done. advanced)
+
+abbrev pub told_emptied : Result ℕ Refusal → Answer
+told_emptied = told emptied
