@@ -1,7 +1,7 @@
 //! What is learned from a frame, and what is known of its destination.
 ghost use Rattle.std.specs.Prelude.{◌≡◌, true, cond, List, []};
 ghost use Rattle.fault.specs.declared.mark.Mark.TheVariants.{Unlearned};
-ghost use Rattle.table.specs.Calls.{after_learn, mark_at, port_of};
+ghost use Rattle.table.specs.Calls.{after_learn, entry_port, mark_at};
 ghost use Rattle.table.specs.Entries.{count_of, is_fid, lookup};
 
 use fault::mark::Mark;
@@ -11,7 +11,7 @@ use table::table::Table;
 // What the table knows of an address.
 pub(crate) fn known<T: Table>(table: &mut T, fid: u8, address: [u8; 6]) -> Option<u8>
     requires { is_fid fid ≡ true }
-    ensures answer { result ≡ port_of (lookup (T.entries table.old) fid address) }
+    ensures answer { result ≡ entry_port (lookup (T.entries table.old) fid address) }
     ensures later { T.entries table.new ≡ T.entries table.old }
     ensures share { T.share table.new ≡ T.share table.old }
 {

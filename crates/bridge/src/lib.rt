@@ -9,4 +9,5 @@ pub mod events;
 pub mod learning;
 pub mod port_state;
 pub mod relay;
+pub mod sending;
 pub mod setup;
