@@ -2,3 +2,5 @@ pub mod Flushing
 pub mod States
 pub mod Views
 pub mod Happening
+pub mod Laying
+pub mod Floods

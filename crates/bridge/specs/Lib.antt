@@ -4,3 +4,4 @@ pub mod Kept
 pub mod View
 pub mod Making
 pub mod Told
+pub mod Flooding

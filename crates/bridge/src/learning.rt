@@ -1,25 +1,12 @@
-//! What is learned from a frame, and what is known of its destination.
+//! What is learned from a frame.
 ghost use Rattle.std.specs.Prelude.{◌≡◌, true, cond, List, []};
 ghost use Rattle.fault.specs.declared.mark.Mark.TheVariants.{Unlearned};
-ghost use Rattle.table.specs.Calls.{after_learn, entry_port, mark_at};
+ghost use Rattle.table.specs.Calls.{after_learn, mark_at};
 ghost use Rattle.table.specs.Entries.{count_of, is_fid, lookup};
 
 use fault::mark::Mark;
-use table::entry::{Entry, Key};
+use table::entry::Entry;
 use table::table::Table;
-
-// What the table knows of an address.
-pub(crate) fn known<T: Table>(table: &mut T, fid: u8, address: [u8; 6]) -> Option<u8>
-    requires { is_fid fid ≡ true }
-    ensures answer { result ≡ entry_port (lookup (T.entries table.old) fid address) }
-    ensures later { T.entries table.new ≡ T.entries table.old }
-    ensures share { T.share table.new ≡ T.share table.old }
-{
-    match table.find(Key { fid, address }) {
-        Ok(port) => port,
-        Err(_) => None,
-    }
-}
 
 // Learns an entry where it is to be learned.
 pub(crate) fn learn<T: Table>(table: &mut T, learnable: bool, entry: Entry) -> Mark

@@ -5,6 +5,7 @@ pub mod bridge;
 pub mod check;
 pub mod checked;
 pub mod clock;
+pub mod egress;
 pub mod events;
 pub mod learning;
 pub mod port_state;

@@ -1,27 +1,84 @@
 //! Which ports a frame goes to.
-ghost use Rattle.std.specs.Prelude.{◌≡◌, ℕ, not, ◌&&◌, ◌==◌, map, nat_lt};
+ghost use Rattle.std.specs.Prelude.{◌≡◌, ℕ, not, ◌&&◌, ◌==◌, map, nat_lt, true};
 ghost use Rattle.rules.specs.Ports.{has, ports_where};
 ghost use Rattle.rules.specs.Relay.{forwards};
-ghost use Rattle.bridge.specs.Decided.{goes_to};
+ghost use Rattle.table.specs.Entries.{is_fid};
+ghost use Rattle.bridge.specs.Decided.{goes_to, known_port, lets};
 
 use crate::port_state::{Port, forwards};
-use sets::number_set::PortSet;
+use configuration::said::Said;
+use frame::address::is_group;
+use sets::number_set::{PORTS, PortSet};
+use table::entry::Key;
+use table::table::Table;
 
-fn goes_to(number: u8, port: &Port, count: u8, from: u8, allowed: &PortSet) -> bool
-    ensures { result ≡ (nat_lt number count && not (number == from) && forwards port.now.state && has allowed.now number) }
+/// The port that a table knows for a destination. It is not asked for a group.
+#[inline]
+pub(crate) fn known_port<T: Table>(table: &mut T, fid: u8, destination: [u8; 6]) -> Option<u8>
+    requires { is_fid fid ≡ true }
+    ensures answer { result ≡ known_port (T.entries table.old) fid destination }
+    ensures later { T.entries table.new ≡ T.entries table.old }
+    ensures share { T.share table.new ≡ T.share table.old }
 {
-    number < count && number != from && forwards(port.state) && allowed.contains(number)
+    if is_group(destination) {
+        return None;
+    }
+    match table.find(Key {
+        fid,
+        address: destination,
+    }) {
+        Ok(port) => port,
+        Err(_) => None,
+    }
 }
 
-/// The ports, of the first `count`, that a frame from a port goes to, where it may go to those of a set.
+// Whether a frame is let through to a port.
+#[inline]
+fn lets(said: &Said, known: Option<u8>, number: u8) -> bool
+    ensures { result ≡ lets said.now known number }
+{
+    if said.forward.contains(number) {
+        return true;
+    }
+    if said.filter.contains(number) {
+        return false;
+    }
+    match known {
+        None => true,
+        Some(port) => port == number,
+    }
+}
+
+/// What is asked of each port, and the answers that are the same for all.
+#[derive(Clone, Copy, Drop)]
+pub(crate) struct Way {
+    pub count: u8,
+    pub from: u8,
+    pub members: PortSet,
+    pub said: Said,
+    pub known: Option<u8>,
+}
+
+#[inline]
+fn goes_to(number: u8, port: &Port, way: &Way) -> bool
+    ensures { result ≡ (nat_lt number way.now.count && not (number == way.now.from) && forwards port.now.state && has way.now.members number && lets way.now.said way.now.known number) }
+{
+    number < way.count
+        && number != way.from
+        && forwards(port.state)
+        && way.members.contains(number)
+        && lets(&way.said, way.known, number)
+}
+
+/// The ports that a frame goes to.
 #[tactic(auto, using(sets::proofs::ByNumber::tried_none, sets::proofs::ByNumber::tried_all))]
-pub(crate) fn decided(ports: &[Port; 16], count: u8, from: u8, allowed: &PortSet) -> PortSet
-    ensures { result ≡ ports_where (goes_to count (map (λ port. port.state) ports.now) from allowed.now) }
+pub(crate) fn decided(ports: &[Port; PORTS], way: &Way) -> PortSet
+    ensures { result ≡ ports_where (goes_to way.now.count (map (λ port. port.state) ports.now) way.now.from way.now.members way.now.said way.now.known) }
 {
     let mut set = PortSet::empty();
     for (index, port) in ports.iter().enumerate() {
         let number = index as u8;
-        if goes_to(number, port, count, from, allowed) {
+        if goes_to(number, port, way) {
             set.insert(number);
         }
     }

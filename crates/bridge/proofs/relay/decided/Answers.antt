@@ -1,9 +1,9 @@
-use Rattle.std.proofs.Common.{◌≡◌, List, Bool, true, not, ◌&&◌, ◌==◌, map, nat_lt, slice_set, sym, ap, ◌∙◌}
+use Rattle.std.proofs.Common.{◌≡◌, ℕ, ◌+◌, List, Bool, true, not, ◌&&◌, ◌==◌, map, nat_lt, slice_set, sym, ap, ◌∙◌}
 use Rattle.sets.proofs.ByNumber.{tried_adds, tried_skips}
 use Rattle.rules.specs.Ports.{has}
 use Rattle.rules.specs.Relay.{forwards}
 use Rattle.rules.specs.declared.ports.PortState.{PortState}
-use Rattle.bridge.specs.Decided.{goes_to}
+use Rattle.bridge.specs.Decided.{goes_to, lets}
 use Rattle.bridge.specs.declared.port_state.Port.{Port}
 use Rattle.bridge.proofs.States.{state_there}
 use Rattle.bridge.proofs.relay.decided.Goals as goal
@@ -12,11 +12,12 @@ use Rattle.bridge.proofs.relay.decided.Goals.{then-goes_to, else-goes_to}
 pub loop-index-preserved : goal.loop-index-preserved
 loop-index-preserved c =
     let l = c.loop-index in
-    let a = c.args in
-    let f = goes_to a.count (map (λ (port : Port). port.state) a.ports.now) a.from a.allowed.now in
+    let ports = c.args.ports.now in
+    let way = c.args.way.now in
+    let f = goes_to way.count (map (λ (port : Port). port.state) ports) way.from way.members way.said way.known in
     let e : c.goes_to.result ≡ f l.index =
     c.goes_to.ensures
-    ∙ ap (λ (state : PortState). nat_lt l.index a.count && not (l.index == a.from) && forwards state && has a.allowed.now l.index) (sym (state_there a.ports.now l.index)) in
+    ∙ ap (λ (state : PortState). nat_lt l.index way.count && not (l.index == way.from) && forwards state && has way.members l.index && lets way.said way.known l.index) (sym (state_there ports l.index)) in
     elim c.if-goes_to.branch [
       | then-goes_to w ↦
           w.set-is ∙ w.insert.ensures ∙ ap (λ (set : List Bool). slice_set set l.index true) l.invariant

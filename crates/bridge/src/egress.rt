@@ -1,0 +1,102 @@
+//! Into the queues: the class, the room and the form of a frame at each port that it goes to.
+ghost use Rattle.std.specs.Prelude.{◌≡◌, ◌<◌, ◌≤◌, length, nat_le, true};
+ghost use Rattle.frame.specs.Reading.{picture};
+ghost use Rattle.queues.specs.Rings.{needed_for};
+ghost use Rattle.rules.specs.Egress.{class_of, egress_tag, sendable};
+ghost use Rattle.rules.specs.Ports.{no_ports};
+ghost use Rattle.sets.specs.Sets.{members};
+ghost use Rattle.bridge.specs.Flooding.{Writable, flood_of, laid_once, laid_over};
+
+use frame::parts::{Parts, Tag};
+use queues::queues::Queues;
+use rules::vlans::Vlan;
+use sets::number_set::PortSet;
+
+// For each priority its traffic class, where there are one to eight classes.
+const CLASSES: [[u8; 8]; 8] = [
+    [0, 0, 0, 0, 0, 1, 1, 1],
+    [0, 0, 0, 0, 0, 0, 0, 0],
+    [0, 0, 0, 1, 1, 2, 2, 2],
+    [0, 0, 0, 1, 1, 2, 3, 3],
+    [0, 1, 1, 2, 2, 3, 4, 4],
+    [0, 1, 1, 2, 2, 3, 4, 5],
+    [0, 1, 2, 3, 3, 4, 5, 6],
+    [0, 1, 2, 3, 4, 5, 6, 7],
+];
+
+// The traffic class of a priority.
+#[inline]
+#[tactic(auto, unfolding(rules::specs::Egress::class_of))]
+fn class_of(classes: u8, priority: u8) -> u8
+    requires some { 1 ≤ classes }
+    requires few { classes ≤ 8 }
+    requires priority { priority ≤ 7 }
+    ensures { result ≡ class_of classes priority }
+{
+    CLASSES[usize::from(priority)][usize::from(classes - 1)]
+}
+
+// The tag of a frame that leaves from a port.
+#[inline]
+fn egress_tag(vlan: &Vlan, priority: u8, port: u8) -> Option<Tag>
+    ensures { result ≡ egress_tag vlan.now priority port }
+{
+    if vlan.untagged.contains(port) {
+        return None;
+    }
+    Some(Tag {
+        priority,
+        vid: vlan.vid,
+    })
+}
+
+// Lays a frame at a port, or notes that there is no room.
+#[inline]
+fn lay_once(
+    queues: &mut Queues,
+    memory: &mut [u8],
+    no_room: &mut PortSet,
+    port: u8,
+    frame: &Parts<'_>,
+    vlan: &Vlan,
+    priority: u8,
+)
+    requires memory { nat_le (needed_for queues.old.shape) (length memory.old) ≡ true }
+    requires priority { priority ≤ 7 }
+    requires form { Writable (picture frame.now) vlan.now priority }
+    ensures laid { flood_of queues.new memory.new no_room.new ≡ laid_once queues.old.shape priority (sendable (picture frame.now) vlan.now priority) port (flood_of queues.old memory.old no_room.old) }
+    ensures shape { queues.new.shape ≡ queues.old.shape }
+{
+    let class = class_of(queues.shape().classes(), priority);
+    let parts = Parts {
+        destination: frame.destination,
+        source: frame.source,
+        body: frame.body,
+        tag: egress_tag(vlan, priority, port),
+    };
+    if !queues.lay(memory, port, class, vlan.vid, &parts) {
+        no_room.insert(port);
+    }
+}
+
+/// Lays a frame at each port of a set that has room, and answers those that have none.
+pub(crate) fn lay_over(
+    queues: &mut Queues,
+    memory: &mut [u8],
+    decided: &PortSet,
+    frame: &Parts<'_>,
+    vlan: &Vlan,
+    priority: u8,
+) -> PortSet
+    requires memory { nat_le (needed_for queues.old.shape) (length memory.old) ≡ true }
+    requires priority { priority ≤ 7 }
+    requires form { Writable (picture frame.now) vlan.now priority }
+    ensures laid { flood_of queues.new memory.new result ≡ laid_over queues.old.shape priority (sendable (picture frame.now) vlan.now priority) (members decided.now) (flood_of queues.old memory.old no_ports) }
+    ensures shape { queues.new.shape ≡ queues.old.shape }
+{
+    let mut no_room = PortSet::empty();
+    for port in decided.iter() {
+        lay_once(queues, memory, &mut no_room, port, frame, vlan, priority);
+    }
+    no_room
+}
