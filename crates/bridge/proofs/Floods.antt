@@ -9,7 +9,8 @@ use Rattle.frame.specs.Writing.{put_at}
 use Rattle.queues.specs.Laying.{changed_at, laid_one, next_one}
 use Rattle.queues.specs.Rings.{is_queue, number_of}
 use Rattle.sets.proofs.ByNumber.{tried, tried_adds, tried_all, tried_none, tried_skips}
-use Rattle.sets.specs.Sets.{members}
+use Rattle.sets.specs.Sets.{any_in, members}
+use Rattle.rules.proofs.Classes.{class_below}
 use Rattle.rules.specs.Egress.{class_at, class_of, laid_memory, laid_queues, laid_slots, lays, lays_in, next_place, without_room}
 use Rattle.rules.specs.Ports.{Ports, has, no_ports, ports_where, sixteen}
 use Rattle.rules.specs.Settings.{Settings}
@@ -48,7 +49,7 @@ module _ {X : Type 0} (told ch : ℕ → ℕ → X) (at : ℕ → ℕ → Bool) 
       each p c =
           elim (cases_eq p i) [
             | inl e ↦ subst (λ q. changed_at i k change (closed i) q c ≡ closed (i + 1) q c) (sym e)
-              (rw (eq-eqb i i refl, closed_here i c) (sym (rw (lt-ltb i (i + 1) (omega arith), all c, value c) refl)))
+                (rw (eq-eqb i i refl, closed_here i c) (sym (rw (lt-ltb i (i + 1) (omega arith), all c, value c) refl)))
             | inr o ↦ rw (ne_eqb p i o) (ap (λ (t : Bool). cond (t && at p c) (ch p c) (told p c)) (further p i o))
           ]
 
@@ -127,9 +128,9 @@ module _ (base : Settings) (shape : Shape) (s : State) (set : Ports) (priority :
   serves_by i memory true h r =
       rw (test_here i memory ∙ r)
       (flood_as _ _ _ _ _ _ _ _ (closed_more s.queues queued at i k (λ l. l ++ (frame i ∷ [])) (λ c. rw (h, r) refl) (λ c. refl))
-        (closed_more s.slots next at i k (λ slot. (slot + 1) % shape.depth) (λ c. rw (h, r) refl) (λ c. refl))
-        (ap (λ (n : ℕ). put_at memory (1518 * (number_of shape i k * shape.depth + n)) (frame i).bytes) (closed_here s.slots next at i k) ∙ sym (rw (h, r) refl))
-        (tried_skips lacks 16 i (rw (h, r) refl)))
+      (closed_more s.slots next at i k (λ slot. (slot + 1) % shape.depth) (λ c. rw (h, r) refl) (λ c. refl))
+      (ap (λ (n : ℕ). put_at memory (1518 * (number_of shape i k * shape.depth + n)) (frame i).bytes) (closed_here s.slots next at i k) ∙ sym (rw (h, r) refl))
+      (tried_skips lacks 16 i (rw (h, r) refl)))
   serves_by i memory false h r =
       rw (test_here i memory ∙ r) (unserved i memory (slice_set (tried lacks 16 i) i true) (rw (h, r) refl) (sym (tried_adds lacks 16 i (rw (h, r) refl))))
 
@@ -145,8 +146,8 @@ module _ (base : Settings) (shape : Shape) (s : State) (set : Ports) (priority :
       → laid_over shape priority frame (filter (has set) (range_with_len i m)) (served i memory) ≡ served 16 (laid_memory σ s set full priority frame (range_with_len i m) memory)
   over zero i memory e = ap (λ (n : ℕ). served n memory) (omega arith)
   over (suc m) i memory e = by_member (has set i) refl
-    (over m (i + 1) (served_memory i memory) (omega arith)
-    ∙ ap (λ (t : Bool). served 16 (laid_memory σ s set full priority frame (range_with_len (i + 1) m) (cond t (put_at memory (place i) (frame i).bytes) memory))) (lays_is i (omega arith)))
+      (over m (i + 1) (served_memory i memory) (omega arith)
+      ∙ ap (λ (t : Bool). served 16 (laid_memory σ s set full priority frame (range_with_len (i + 1) m) (cond t (put_at memory (place i) (frame i).bytes) memory))) (lays_is i (omega arith)))
     where
       by_member : (t : Bool) → has set i ≡ t
           → laid_over shape priority frame (filter (has set) (range_with_len (i + 1) m)) (served (i + 1) (served_memory i memory)) ≡ served 16 (laid_memory σ s set full priority frame (i ∷ range_with_len (i + 1) m) memory)
@@ -171,10 +172,22 @@ module _ (base : Settings) (shape : Shape) (s : State) (set : Ports) (priority :
 
   pub flooded : (memory : List ℕ)
       → laid_over shape priority frame (members set) (record { queues = s.queues; slots = s.slots; memory = memory; no_room = no_ports })
-        ≡ record { queues = laid_queues σ s set full priority frame; slots = laid_slots σ s set full priority; memory = laid_memory σ s set full priority frame sixteen memory; no_room = full }
+      ≡ record { queues = laid_queues σ s set full priority frame; slots = laid_slots σ s set full priority; memory = laid_memory σ s set full priority frame sixteen memory; no_room = full }
   flooded memory =
       ap (λ (n : ℕ). laid_over shape priority frame (filter (has set) (range_with_len 0 n)) (record { queues = s.queues; slots = s.slots; memory = memory; no_room = no_ports })) long
       ∙ ap (λ (now : Flood). laid_over shape priority frame (filter (has set) (range_with_len 0 16)) now) (at_first memory)
       ∙ over 16 0 memory refl
       ∙ flood_as _ _ _ _ _ _ _ _ (at_end s.queues queued) (at_end s.slots next) refl
-        (tried_all lacks 16 16 (omega arith) ∙ (λ j. map (λ p. both_rooms (has set p) (is_queue shape p k) (room p) (there p) j) sixteen))
+      (tried_all lacks 16 16 (omega arith) ∙ (λ j. map (λ p. both_rooms (has set p) (is_queue shape p k) (room p) (there p) j) sixteen))
+
+-- a port that there is has a queue for every class of a priority
+pub has_queue : (shape : Shape) (set : Ports) (priority : ℕ) → ((p : ℕ) → has set p ≡ true → nat_lt p shape.ports ≡ true) → (p : ℕ) → has set p ≡ true → is_queue shape p (class_of shape.classes priority) ≡ true
+has_queue shape set priority below p h =
+    rw (below p h) (lt-ltb (class_of shape.classes priority) shape.classes (class_below shape.classes priority shape.classes_low))
+
+pub not_empty : (set : Ports) (r : Bool) → r ≡ not (any_in set) → r ≡ false → any_in set ≡ true
+not_empty set r e h = go (any_in set) (sym e ∙ h)
+  where
+    go : (t : Bool) → not t ≡ false → t ≡ true
+    go true x = refl
+    go false x = cc

@@ -4,3 +4,4 @@ pub mod Views
 pub mod Happening
 pub mod Laying
 pub mod Floods
+pub mod Relaying

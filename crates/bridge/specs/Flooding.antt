@@ -8,7 +8,7 @@ use Rattle.queues.specs.Rings.{is_queue, number_of}
 use Rattle.queues.specs.Standing.{queues_of, slots_of}
 use Rattle.queues.specs.declared.queues.Queues.{Queues}
 use Rattle.rules.specs.Egress.{class_of, egress_tag}
-use Rattle.rules.specs.Ports.{Ports}
+use Rattle.rules.specs.Ports.{Ports, has}
 use Rattle.rules.specs.State.{Queued}
 use Rattle.rules.specs.declared.shape.Shape.{Shape}
 use Rattle.rules.specs.declared.vlans.Vlan.{Vlan}
@@ -44,3 +44,8 @@ laid_over shape priority frame (p ∷ ps) now = laid_over shape priority frame p
 -- the frame's form at every port can be written
 abbrev pub Writable : Picture → Vlan → ℕ → Type 0
 Writable frame v priority = (p : ℕ) → shape_asked (record frame { tag = egress_tag v priority p }) ≡ None
+
+-- a set of ports that there are
+pub record OfPorts (count : ℕ) (set : Ports) : Type 0 where
+  pub long : length set ≡ 16
+  pub below : (p : ℕ) → has set p ≡ true → nat_lt p count ≡ true

@@ -5,3 +5,4 @@ pub mod View
 pub mod Making
 pub mod Told
 pub mod Flooding
+pub mod LaidBy

@@ -5,12 +5,22 @@ ghost use Rattle.queues.specs.Rings.{needed_for};
 ghost use Rattle.rules.specs.Egress.{class_of, egress_tag, sendable};
 ghost use Rattle.rules.specs.Ports.{no_ports};
 ghost use Rattle.sets.specs.Sets.{members};
-ghost use Rattle.bridge.specs.Flooding.{Writable, flood_of, laid_once, laid_over};
+ghost use Rattle.rules.specs.Calls.{flood, memory_needed, outcome};
+ghost use Rattle.bridge.specs.Flooding.{OfPorts, Writable, flood_of, laid_once, laid_over};
+ghost use Rattle.bridge.specs.LaidBy.{PlacedIn, laid_by};
+ghost use Rattle.bridge.specs.Told.{told_received};
+ghost use Rattle.bridge.specs.View.{settings_of, state_of};
 
+use crate::bridge::Bridge;
+use fault::mark::Mark;
+use fault::refusal::Refusal;
 use frame::parts::{Parts, Tag};
 use queues::queues::Queues;
+use rules::answers::Received;
 use rules::vlans::Vlan;
+use selector::selector::Selector;
 use sets::number_set::PortSet;
+use table::table::Table;
 
 // For each priority its traffic class, where there are one to eight classes.
 const CLASSES: [[u8; 8]; 8] = [
@@ -99,4 +109,40 @@ pub(crate) fn lay_over(
         lay_once(queues, memory, &mut no_room, port, frame, vlan, priority);
     }
     no_room
+}
+
+impl<T: Table + Drop, S: Selector + Drop> Bridge<T, S> {
+    // Queues a frame at the decided ports that have room. Asks whether there is a decided port (14).
+    #[tactic(auto, unfolding(crate::specs::LaidBy::laid_by))]
+    pub(crate) fn flood(
+        &mut self,
+        memory: &mut [u8],
+        frame: &Parts<'_>,
+        vlan: &Vlan,
+        priority: u8,
+        mark: Mark,
+        decided: &PortSet,
+    ) -> Result<Received, Refusal>
+        requires started { self.old.started ≡ true }
+        requires memory { nat_le (memory_needed (settings_of self.old)) (length memory.old) ≡ true }
+        requires priority { priority ≤ 7 }
+        requires form { Writable (picture frame.now) vlan.now priority }
+        requires ports { OfPorts (settings_of self.old).ports decided.now }
+        ensures step { outcome (told_received result) (state_of self.new memory.new) ≡ flood (settings_of self.old) (state_of self.old memory.old) (picture frame.now) vlan.now priority mark decided.now }
+        ensures memory { memory.new ≡ laid_by (settings_of self.old) (state_of self.old memory.old) (picture frame.now) vlan.now result memory.old }
+        ensures placed { PlacedIn vlan.now result }
+        ensures settings { settings_of self.new ≡ settings_of self.old }
+        ensures selector { self.new.selector ≡ self.old.selector }
+    {
+        if decided.is_empty() {
+            return Err(Refusal::NoEgressPort(mark));
+        }
+        let no_room = lay_over(&mut self.queues, memory, decided, frame, vlan, priority);
+        Ok(Received {
+            classified: (vlan.vid, priority),
+            decided: *decided,
+            no_room,
+            mark,
+        })
+    }
 }

@@ -1,13 +1,26 @@
 //! Which ports a frame goes to.
-ghost use Rattle.std.specs.Prelude.{◌≡◌, ℕ, not, ◌&&◌, ◌==◌, map, nat_lt, true};
+ghost use Rattle.std.specs.Prelude.{◌≡◌, ◌<◌, ◌≤◌, not, ◌&&◌, ◌==◌, length, map, nat_le, nat_lt, true};
+ghost use Rattle.frame.specs.Reading.{picture};
+ghost use Rattle.rules.specs.Calls.{memory_needed, outcome, relay};
 ghost use Rattle.rules.specs.Ports.{has, ports_where};
 ghost use Rattle.rules.specs.Relay.{forwards};
 ghost use Rattle.table.specs.Entries.{is_fid};
 ghost use Rattle.bridge.specs.Decided.{goes_to, known_port, lets};
+ghost use Rattle.bridge.specs.Flooding.{Writable};
+ghost use Rattle.bridge.specs.LaidBy.{PlacedIn, laid_by};
+ghost use Rattle.bridge.specs.Told.{told_received};
+ghost use Rattle.bridge.specs.View.{settings_of, state_of};
 
+use crate::bridge::Bridge;
 use crate::port_state::{Port, forwards};
 use configuration::said::Said;
-use frame::address::is_group;
+use fault::mark::Mark;
+use fault::refusal::Refusal;
+use frame::address::{is_group, is_reserved};
+use frame::parts::Parts;
+use rules::answers::Received;
+use rules::vlans::Vlan;
+use selector::selector::Selector;
 use sets::number_set::{PORTS, PortSet};
 use table::entry::Key;
 use table::table::Table;
@@ -83,4 +96,47 @@ pub(crate) fn decided(ports: &[Port; PORTS], way: &Way) -> PortSet
         }
     }
     set
+}
+
+impl<T: Table + Drop, S: Selector + Drop> Bridge<T, S> {
+    // Relays a frame of a VLAN. Asks whether the port that it arrived at is Forwarding (12), and the destination is not
+    // reserved (13), and then whether there is a port that it goes to (14).
+    #[tactic(auto, unfolding(crate::specs::LaidBy::laid_by))]
+    pub(crate) fn relay(
+        &mut self,
+        memory: &mut [u8],
+        from: u8,
+        frame: &Parts<'_>,
+        vlan: &Vlan,
+        priority: u8,
+        mark: Mark,
+    ) -> Result<Received, Refusal>
+        requires started { self.old.started ≡ true }
+        requires memory { nat_le (memory_needed (settings_of self.old)) (length memory.old) ≡ true }
+        requires from { from < 16 }
+        requires priority { priority ≤ 7 }
+        requires fid { is_fid vlan.now.fid ≡ true }
+        requires form { Writable (picture frame.now) vlan.now priority }
+        ensures step { outcome (told_received result) (state_of self.new memory.new) ≡ relay (settings_of self.old) (state_of self.old memory.old) from (picture frame.now) vlan.now priority mark }
+        ensures memory { memory.new ≡ laid_by (settings_of self.old) (state_of self.old memory.old) (picture frame.now) vlan.now result memory.old }
+        ensures placed { PlacedIn vlan.now result }
+        ensures settings { settings_of self.new ≡ settings_of self.old }
+        ensures selector { self.new.selector ≡ self.old.selector }
+    {
+        if !forwards(self.ports[usize::from(from)].state) {
+            return Err(Refusal::PortNotForwarding(mark));
+        }
+        if is_reserved(frame.destination) {
+            return Err(Refusal::ReservedDestination(mark));
+        }
+        let way = Way {
+            count: self.queues.shape().ports(),
+            from,
+            members: vlan.members,
+            said: self.statics.said(&self.vlans, vlan, frame.destination),
+            known: known_port(&mut self.table, vlan.fid, frame.destination),
+        };
+        let decided = decided(&self.ports, &way);
+        self.flood(memory, frame, vlan, priority, mark, &decided)
+    }
 }

@@ -54,12 +54,7 @@ impl<T: Table + Drop, S: Selector + Drop> Bridge<T, S> {
     /// Sends from a port: the oldest frame of the class that the selector picks is copied to the front of the output
     /// memory, and is gone. Asks whether the bridge is started (1), there is such a port (2), the frame memory (3) and the
     /// output memory (15) are large enough, and a frame stands at the port (16).
-    pub fn send(
-        &mut self,
-        port: u8,
-        memory: &[u8],
-        output: &mut [u8],
-    ) -> Result<Sent, Refusal>
+    pub fn send(&mut self, port: u8, memory: &[u8], output: &mut [u8]) -> Result<Sent, Refusal>
         ensures step { outcome (told_sent result output.new) (state_of self.new memory.now) ≡ perform (settings_of self.old) (state_of self.old memory.now) (send port (length memory.now) (length output.old)) (choice_of self.old memory.now port) }
         ensures output { output.new ≡ sent_to (told_sent result output.new) output.old }
         ensures settings { settings_of self.new ≡ settings_of self.old }

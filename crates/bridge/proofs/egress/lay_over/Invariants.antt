@@ -9,7 +9,7 @@ use Rattle.bridge.proofs.egress.lay_over.Given as goal
 -- what the ports still to come will make of this is what all ports of the set make of the beginning
 abbrev pub invariant-loop-port : goal.invariant-loop-port
 invariant-loop-port l = record {
-    laid : laid_over l.initial.queues.shape l.priority (sendable (picture l.frame) l.vlan l.priority) l.port-iterator (flood_of l.queues l.memory l.no_room)
+  laid : laid_over l.initial.queues.shape l.priority (sendable (picture l.frame) l.vlan l.priority) l.port-iterator (flood_of l.queues l.memory l.no_room)
       ≡ laid_over l.initial.queues.shape l.priority (sendable (picture l.frame) l.vlan l.priority) (members l.decided) (flood_of l.initial.queues l.initial.memory no_ports);
-    shape : l.queues.shape ≡ l.initial.queues.shape;
-  }
+  shape : l.queues.shape ≡ l.initial.queues.shape;
+}
