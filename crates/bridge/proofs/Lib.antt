@@ -5,3 +5,4 @@ pub mod Happening
 pub mod Laying
 pub mod Floods
 pub mod Relaying
+pub mod Learns
