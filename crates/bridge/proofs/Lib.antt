@@ -6,3 +6,4 @@ pub mod Laying
 pub mod Floods
 pub mod Relaying
 pub mod Learns
+pub mod Receives

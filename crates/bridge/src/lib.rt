@@ -9,6 +9,7 @@ pub mod egress;
 pub mod events;
 pub mod learning;
 pub mod port_state;
+pub mod receiving;
 pub mod relay;
 pub mod sending;
 pub mod setup;
