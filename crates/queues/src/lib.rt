@@ -11,3 +11,5 @@ pub mod queues;
 mod ring;
 pub mod standing;
 pub mod taking;
+#[cfg(test)]
+mod tests;

@@ -1,7 +1,7 @@
 //! The queues of all ports, and their making.
-ghost use Rattle.std.specs.Prelude.{◌≡◌, ℕ, ◌*◌, IfOk, List, [], vec_len};
+ghost use Rattle.std.specs.Prelude.{◌≡◌, ℕ, ◌*◌, IfOk, List, [], replicate, vec_len};
 ghost use Rattle.std.proofs.Props.{props};
-ghost use Rattle.queues.specs.Rings.{Agree, Round, Short, needed_for};
+ghost use Rattle.queues.specs.Rings.{Agree, Round, Short, needed_for, no_label, no_ring};
 
 use crate::label::Label;
 use crate::ring::Ring;
@@ -39,13 +39,23 @@ impl Queues {
         let slots = queues * usize::from(shape.depth());
         let rings = vec![in alloc; Ring::EMPTY; queues]?;
         let labels = vec![in alloc; Label { length: 0, vid: 0 }; slots]?;
-        Ok(Queues {
+        Ok(Queues::fresh(shape, rings, labels))
+    }
+
+    fn fresh(shape: Shape, rings: Vec<Ring>, labels: Vec<Label>) -> Queues
+        requires rings { rings.items ≡ replicate (shape.ports * shape.classes) no_ring }
+        requires labels { labels.items ≡ replicate (shape.ports * shape.classes * shape.depth) no_label }
+        ensures shape { result.shape ≡ shape }
+        ensures queues { (memory : List ℕ) → queues_of result memory ≡ (λ p c. []) }
+        ensures slots { slots_of result ≡ (λ p c. 0) }
+    {
+        Queues {
             shape,
             needed: shape.memory_needed(),
             rings,
             labels,
             holding: [ClassSet::empty(); PORTS],
-        })
+        }
     }
 
     /// How many ports, classes and slots there are.

@@ -48,8 +48,8 @@ impl Ring {
         ensures count { result.count + 1 ≡ self.count }
     {
         Ring {
-            next: self.next,
             count: self.count - 1,
+            ..self
         }
     }
 
@@ -59,10 +59,7 @@ impl Ring {
         ensures next { result.next ≡ self.next }
         ensures count { result.count ≡ 0 }
     {
-        Ring {
-            next: self.next,
-            count: 0,
-        }
+        Ring { count: 0, ..self }
     }
 }
 
