@@ -16,7 +16,9 @@ use table::entry::{Entry, Key};
 /// A record, by its index, and how many steps it is past the home from which it was found.
 #[derive(Clone, Copy, PartialEq, Eq, Debug, Drop)]
 pub struct Spot {
+    /// Which record of the stretch.
     pub at: usize,
+    /// Counted upward from the home, round past the end.
     pub steps: usize,
 }
 

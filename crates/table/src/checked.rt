@@ -30,7 +30,9 @@ impl<'a, const RECORDS: u16> Checked<'a, RECORDS> {
 /// Why no table can be made in this memory, which is given back as it was.
 #[derive(Drop)]
 pub struct Refused<'a> {
+    /// The first question that was answered no.
     pub refusal: Refusal,
+    /// The whole memory.
     pub records: &'a mut [Entry],
 }
 

@@ -9,15 +9,20 @@ use fault::mark::Mark;
 /// another is refused.
 #[derive(Clone, Copy, PartialEq, Eq, Debug, Drop)]
 pub struct Key {
+    /// The number of the filtering database.
     pub fid: u8,
+    /// An individual address. A table does not ask.
     pub address: [u8; 6],
 }
 
 /// Where an address of a filtering database was heard last, and when (in milliseconds).
 #[derive(Clone, Copy, PartialEq, Eq, Debug, Drop)]
 pub struct Entry {
+    /// What was heard.
     pub key: Key,
+    /// Where.
     pub port: u8,
+    /// When, in milliseconds.
     pub heard: u64,
 }
 
