@@ -1,35 +1,39 @@
 -- A frame laid at the members of a set, by the rules' words.
-use Rattle.std.proofs.Common.{◌≡◌, ℕ, zero, suc, ◌+◌, ◌*◌, ◌%◌, ◌<◌, ◌≤◌, ◌≢◌, Bool, true, false, cond, not, ◌&&◌, ◌==◌, nat_lt, List, [], ◌∷◌, ◌++◌, filter, length, map, slice_set, get_or, refl, sym, ap, subst, ◌∙◌, ◌⊎◌, inl, inr, arith}
+use Rattle.std.proofs.Common.{◌≡◌, ℕ, zero, suc, ◌+◌, ◌*◌, ◌%◌, ◌<◌, ◌≢◌, Bool, true, false, cond, not, ◌&&◌, ◌==◌, nat_lt, List, [], ◌∷◌, ◌++◌, filter, length, map, slice_set, refl, sym, ap, subst, ◌∙◌, inl, inr, arith}
 use Rattle.std.specs.List.{range_with_len}
-use Rattle.std.proofs.lemmas.Bool.{cases_Bool, cases_eq, cases_lt, cond-true, cond-false, eq-eqb, ne_eqb, lt-ltb, le-ltb}
+use Rattle.std.proofs.lemmas.Bool.{cases_eq, cases_lt, eq-eqb, ne_eqb, lt-ltb, le-ltb}
 use Rattle.std.proofs.lemmas.Bool.Decides.{nat_tests}
 use Rattle.std.proofs.lemmas.List.{get_or_past}
 use Rattle.std.proofs.lemmas.List.FromFn.{get_or-map-range_with_len}
+use Rattle.fault.specs.declared.mark.Mark.{Mark}
+use Rattle.frame.specs.Reading.{Picture}
 use Rattle.frame.specs.Writing.{put_at}
-use Rattle.queues.specs.Laying.{changed_at, laid_one, next_one}
+use Rattle.queues.specs.Laying.{changed_at}
 use Rattle.queues.specs.Rings.{is_queue, number_of}
 use Rattle.sets.proofs.ByNumber.{tried, tried_adds, tried_all, tried_none, tried_skips}
 use Rattle.sets.specs.Sets.{any_in, members}
 use Rattle.rules.proofs.Classes.{class_below}
-use Rattle.rules.specs.Egress.{class_at, class_of, laid_memory, laid_queues, laid_slots, lays, lays_in, next_place, without_room}
-use Rattle.rules.specs.Ports.{Ports, has, no_ports, ports_where, sixteen}
+use Rattle.rules.specs.Calls.{flood, outcome, received}
+use Rattle.rules.specs.Egress.{class_of, laid_memory, laid_queues, laid_slots, lays, lays_in, without_room, sendable}
+use Rattle.rules.specs.Ports.{Ports, has, no_ports, sixteen}
 use Rattle.rules.specs.Settings.{Settings}
 use Rattle.rules.specs.State.{Queued, State}
 use Rattle.rules.specs.declared.shape.Shape.{Shape}
+use Rattle.rules.specs.declared.vlans.Vlan.{Vlan}
 use Rattle.bridge.specs.Flooding.{Flood, laid_once, laid_over}
 
 further : (p i : ℕ) → p ≢ i → nat_lt p i ≡ nat_lt p (i + 1)
 further p i other = grind (arith, nat_tests)
 
--- what is told by port and class, changed at the ports before place i where a test holds
-module _ {X : Type 0} (told ch : ℕ → ℕ → X) (at : ℕ → ℕ → Bool) where
+-- what is as_answer by port and class, changed at the ports before place i where a test holds
+module _ {X : Type 0} (as_answer ch : ℕ → ℕ → X) (at : ℕ → ℕ → Bool) where
   abbrev pub closed : ℕ → ℕ → ℕ → X
-  closed i p c = cond (nat_lt p i && at p c) (ch p c) (told p c)
+  closed i p c = cond (nat_lt p i && at p c) (ch p c) (as_answer p c)
 
-  pub closed_first : (p c : ℕ) → closed 0 p c ≡ told p c
+  pub closed_first : (p c : ℕ) → closed 0 p c ≡ as_answer p c
   closed_first p c = rw (le-ltb p 0 (omega arith)) refl
 
-  pub closed_here : (i c : ℕ) → closed i i c ≡ told i c
+  pub closed_here : (i c : ℕ) → closed i i c ≡ as_answer i c
   closed_here i c = rw (le-ltb i i (omega arith)) refl
 
   pub closed_same : (i : ℕ) → ((c : ℕ) → at i c ≡ false) → closed i ≡ closed (i + 1)
@@ -39,10 +43,10 @@ module _ {X : Type 0} (told ch : ℕ → ℕ → X) (at : ℕ → ℕ → Bool) 
       each p c =
           elim (cases_eq p i) [
             | inl e ↦ subst (λ q. closed i q c ≡ closed (i + 1) q c) (sym e) (closed_here i c ∙ sym (rw (lt-ltb i (i + 1) (omega arith), none c) refl))
-            | inr o ↦ ap (λ (t : Bool). cond (t && at p c) (ch p c) (told p c)) (further p i o)
+            | inr o ↦ ap (λ (t : Bool). cond (t && at p c) (ch p c) (as_answer p c)) (further p i o)
           ]
 
-  pub closed_more : (i k : ℕ) (change : X → X) → ((c : ℕ) → at i c ≡ (c == k)) → ((c : ℕ) → ch i c ≡ change (told i c)) → changed_at i k change (closed i) ≡ closed (i + 1)
+  pub closed_more : (i k : ℕ) (change : X → X) → ((c : ℕ) → at i c ≡ (c == k)) → ((c : ℕ) → ch i c ≡ change (as_answer i c)) → changed_at i k change (closed i) ≡ closed (i + 1)
   closed_more i k change all value j p c = each p c j
     where
       each : (p c : ℕ) → changed_at i k change (closed i) p c ≡ closed (i + 1) p c
@@ -50,7 +54,7 @@ module _ {X : Type 0} (told ch : ℕ → ℕ → X) (at : ℕ → ℕ → Bool) 
           elim (cases_eq p i) [
             | inl e ↦ subst (λ q. changed_at i k change (closed i) q c ≡ closed (i + 1) q c) (sym e)
                 (rw (eq-eqb i i refl, closed_here i c) (sym (rw (lt-ltb i (i + 1) (omega arith), all c, value c) refl)))
-            | inr o ↦ rw (ne_eqb p i o) (ap (λ (t : Bool). cond (t && at p c) (ch p c) (told p c)) (further p i o))
+            | inr o ↦ rw (ne_eqb p i o) (ap (λ (t : Bool). cond (t && at p c) (ch p c) (as_answer p c)) (further p i o))
           ]
 
 and_assoc : (a b c : Bool) → (a && (b && c)) ≡ ((a && b) && c)
@@ -155,13 +159,13 @@ module _ (base : Settings) (shape : Shape) (s : State) (set : Ports) (priority :
       by_member true h rest = rw h (ap (λ (now : Flood). laid_over shape priority frame (filter (has set) (range_with_len (i + 1) m)) now) (serves i memory h) ∙ rest)
       by_member false h rest = rw h (ap (λ (now : Flood). laid_over shape priority frame (filter (has set) (range_with_len (i + 1) m)) now) (skips i memory h) ∙ rest)
 
-  at_end : {X : Type 0} → (told ch : ℕ → ℕ → X) → closed told ch at 16 ≡ (λ p c. cond (lays_in σ set full priority p c) (ch p c) (told p c))
-  at_end told ch j p c = each p c j
+  at_end : {X : Type 0} → (as_answer ch : ℕ → ℕ → X) → closed as_answer ch at 16 ≡ (λ p c. cond (lays_in σ set full priority p c) (ch p c) (as_answer p c))
+  at_end as_answer ch j p c = each p c j
     where
-      each : (p c : ℕ) → closed told ch at 16 p c ≡ cond (lays_in σ set full priority p c) (ch p c) (told p c)
+      each : (p c : ℕ) → closed as_answer ch at 16 p c ≡ cond (lays_in σ set full priority p c) (ch p c) (as_answer p c)
       each p c =
           elim (cases_lt p 16) [
-            | inl l ↦ rw (lt-ltb p 16 l) (ap (λ (t : Bool). cond (t && c == k) (ch p c) (told p c)) (lays_is p l))
+            | inl l ↦ rw (lt-ltb p 16 l) (ap (λ (t : Bool). cond (t && c == k) (ch p c) (as_answer p c)) (lays_is p l))
             | inr l ↦ rw (le-ltb p 16 l, get_or_past set p false (omega (arith, long))) refl
           ]
 
@@ -191,3 +195,30 @@ not_empty set r e h = go (any_in set) (sym e ∙ h)
     go : (t : Bool) → not t ≡ false → t ≡ true
     go true x = refl
     go false x = cc
+
+-- what becomes of the bridge and the frame memory, where the frame is laid at the members of a set
+module _ (base : Settings) (shape : Shape) (s : State) (set : Ports) (priority : ℕ) (frame : Picture) (v : Vlan) (long : length set ≡ 16) (below : (p : ℕ) → has set p ≡ true → nat_lt p shape.ports ≡ true)
+    (q : ℕ → ℕ → List Queued) (t : ℕ → ℕ → ℕ) (m n : List ℕ) (no_room : Ports)
+    (laid : ◌≡◌ {A = Flood} (record { queues = q; slots = t; memory = n; no_room = no_room }) (laid_over shape priority (sendable frame v priority) (members set) (record { queues = s.queues; slots = s.slots; memory = m; no_room = no_ports }))) where
+  abbrev sized : Settings
+  sized = record base { ports = shape.ports; classes = shape.classes; depth = shape.depth }
+
+  after : ◌≡◌ {A = Flood} (record { queues = q; slots = t; memory = n; no_room = no_room })
+      (record {
+        queues = laid_queues sized s set (without_room sized s priority set) priority (sendable frame v priority);
+        slots = laid_slots sized s set (without_room sized s priority set) priority;
+        memory = laid_memory sized s set (without_room sized s priority set) priority (sendable frame v priority) sixteen m;
+        no_room = without_room sized s priority set;
+      })
+  after = laid ∙ flooded base shape s set priority (sendable frame v priority) long (has_queue shape set priority below) m
+
+  pub floods : (mark : Mark) → any_in set ≡ true
+      → outcome (received (record { classified = (v.vid, priority); decided = set; no_room = no_room; mark = mark })) (record s { queues = q; slots = t }) ≡ flood sized s frame v priority mark set
+  floods mark some =
+      ap (λ (f : Flood). outcome (received (record { classified = (v.vid, priority); decided = set; no_room = f.no_room; mark = mark })) (record s { queues = f.queues; slots = f.slots })) after
+      ∙ sym (rw some refl)
+
+  pub flood_memory : n ≡ laid_memory sized s set no_room priority (sendable frame v priority) sixteen m
+  flood_memory =
+      ap (λ (f : Flood). f.memory) after
+      ∙ ap (λ (full : Ports). laid_memory sized s set full priority (sendable frame v priority) sixteen m) (sym (ap (λ (f : Flood). f.no_room) after))

@@ -6,7 +6,7 @@ use Rattle.fault.specs.declared.refusal.Refusal.TheVariants.{NoTransition, Unkno
 use Rattle.rules.specs.Calls.{emptied, emptied_queues, event, event_of, moved, moving, next_state, outcome, perform, refusing}
 use Rattle.rules.specs.Relay.{forwards}
 use Rattle.rules.specs.Settings.{Settings}
-use Rattle.rules.specs.State.{Queued, State, standing_at, state_of as state_at}
+use Rattle.rules.specs.State.{Queued, State, standing_at, state_at}
 use Rattle.rules.specs.declared.ports.PortEvent.{PortEvent}
 use Rattle.rules.specs.declared.ports.PortState.{PortState}
 use Rattle.rules.specs.declared.ports.PortState.TheVariants.{Disabled}

@@ -1,14 +1,14 @@
 -- A frame laid at one port.
-use Rattle.std.proofs.Common.{◌≡◌, ℕ, ◌+◌, ◌*◌, Bool, true, false, cond, ◌&&◌, nat_lt, nat_le, List, [], ◌∷◌, length, None, Option, slice_set, refl, sym, ap, subst, ◌∙◌}
+use Rattle.std.proofs.Common.{◌≡◌, ℕ, Bool, true, false, cond, ◌&&◌, nat_lt, nat_le, List, length, Option, slice_set, refl, sym, ap, subst, ◌∙◌}
 use Rattle.std.specs.Option.{is_none}
 use Rattle.fault.specs.declared.refusal.Refusal.{Refusal}
 use Rattle.frame.specs.Reading.{Picture}
-use Rattle.frame.specs.Writing.{frame_of, put_at, shape_asked}
+use Rattle.frame.specs.Writing.{frame_of, put_at}
 use Rattle.frame.specs.declared.parts.Tag.{Tag}
 use Rattle.queues.proofs.Counts.{counted}
 use Rattle.queues.specs.Laying.{can_lay, laid_one, next_one, next_place}
 use Rattle.queues.specs.Rings.{is_queue, needed_for}
-use Rattle.queues.specs.Standing.{count_of, queues_of, slots_of}
+use Rattle.queues.specs.Standing.{frames_at, queues_of, slots_of}
 use Rattle.queues.specs.declared.queues.Queues.{Queues}
 use Rattle.rules.specs.Egress.{class_of, egress_tag, sendable}
 use Rattle.rules.specs.Ports.{Ports}
@@ -41,7 +41,7 @@ module _ (queues : Queues) (m : List ℕ) (full : Ports) (frame : Picture) (v : 
   room : (b : Bool) → b ≡ can_lay queues (length m) p k (record frame { tag = egress_tag v priority p }) → (is_queue queues.shape p k && nat_lt (length (queues_of queues m p k)) queues.shape.depth) ≡ b
   room b e =
       ap (λ (c : ℕ). is_queue queues.shape p k && nat_lt c queues.shape.depth) (counted queues m p k)
-      ∙ sym (e ∙ both_asked (is_queue queues.shape p k && nat_lt (count_of queues p k) queues.shape.depth) _ _ fits (ap (λ (o : Option Refusal). is_none o) (writable p)))
+      ∙ sym (e ∙ both_asked (is_queue queues.shape p k && nat_lt (frames_at queues p k) queues.shape.depth) _ _ fits (ap (λ (o : Option Refusal). is_none o) (writable p)))
 
   once_at : (b : Bool) → Laid b k (egress_tag v priority p)
   once_at true e eq es em ef = flood_as q _ s _ n _ f _ eq es em ef ∙ sym (rw (room true e) refl)

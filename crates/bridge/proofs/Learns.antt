@@ -1,19 +1,18 @@
 -- Learning, and what is laid after it.
-use Rattle.std.proofs.Common.{◌≡◌, ℕ, ◌+◌, ◌*◌, ◌%◌, Bool, true, false, cond, List, [], ◌∷◌, Ok, Err, Result, refl, sym, ap, ◌∙◌}
+use Rattle.std.proofs.Common.{◌≡◌, ℕ, Bool, true, false, cond, List, [], ◌∷◌, Ok, Err, Result, refl, sym, ap, ◌∙◌}
 use Rattle.fault.specs.declared.mark.Mark.{Mark}
 use Rattle.fault.specs.declared.mark.Mark.TheVariants.{Unlearned}
 use Rattle.fault.specs.declared.refusal.Refusal.{Refusal}
 use Rattle.frame.specs.Reading.{Picture}
-use Rattle.frame.specs.Writing.{put_at}
 use Rattle.table.specs.Calls.{after_learn, mark_at}
 use Rattle.table.specs.Entries.{count_of, lookup}
 use Rattle.table.specs.declared.entry.Entry.{Entry}
 use Rattle.rules.specs.Calls.{learning, relay}
-use Rattle.rules.specs.Egress.{cell_place, class_of, laid_memory, lays, sendable}
+use Rattle.rules.specs.Egress.{laid_memory, sendable}
 use Rattle.rules.specs.Ports.{Ports, sixteen}
 use Rattle.rules.specs.Relay.{learnable, learns}
 use Rattle.rules.specs.Settings.{Settings}
-use Rattle.rules.specs.State.{Queued, State, state_of as state_at}
+use Rattle.rules.specs.State.{Queued, State, state_at}
 use Rattle.rules.specs.declared.answers.Received.{Received}
 use Rattle.rules.specs.declared.vlans.Vlan.{Vlan}
 use Rattle.bridge.specs.LaidBy.{laid_by}

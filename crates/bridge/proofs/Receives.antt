@@ -1,5 +1,5 @@
 -- Receiving.
-use Rattle.std.proofs.Common.{◌≡◌, ℕ, ◌+◌, ◌*◌, ◌<◌, ◌≤◌, Bool, true, false, cond, not, ◌&&◌, ◌||◌, ◌==◌, nat_le, nat_lt, List, [], ◌∷◌, length, map, get_or, Some, None, Ok, Err, Option, Result, sym, refl, ap, ◌∙◌, arith}
+use Rattle.std.proofs.Common.{◌≡◌, ℕ, ◌+◌, ◌≤◌, Bool, true, false, cond, not, ◌||◌, ◌==◌, nat_le, nat_lt, List, [], ◌∷◌, length, map, get_or, Some, None, Ok, Err, Option, Result, sym, refl, ap, ◌∙◌, arith}
 use Rattle.std.proofs.Math.ListN.{get_or-map}
 use Rattle.std.proofs.lemmas.Bool.{eqb-true, le-leb}
 use Rattle.std.proofs.lemmas.Bool.Decides.{nat_tests}
@@ -10,8 +10,8 @@ use Rattle.fault.specs.declared.refusal.Refusal.TheVariants.{FrameNotAdmitted, N
 use Rattle.frame.specs.Reading.{Picture, frame_asked, parse, parts_of}
 use Rattle.frame.specs.Writing.{shape_asked, size_of, tag_fits}
 use Rattle.frame.specs.declared.parts.Tag.{Tag}
-use Rattle.rules.specs.Calls.{Outcome, laid_in, learning, memory_needed, perform, receive, received_in}
-use Rattle.rules.specs.Egress.{egress_tag}
+use Rattle.rules.specs.Calls.{laid_in, learning, perform, receive, received_in}
+use Rattle.rules.specs.Egress.{egress_tag, memory_needed}
 use Rattle.rules.specs.Ingress.{admitted, classified, classified_at, ingress, of_member}
 use Rattle.rules.specs.Ports.{has}
 use Rattle.rules.specs.Settings.{Settings, fresh_port, is_member, port_settings, vlan_of}

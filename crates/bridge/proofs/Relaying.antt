@@ -1,9 +1,9 @@
 -- Relaying, and the ports that a frame goes to.
-use Rattle.std.proofs.Common.{◌≡◌, ℕ, ◌<◌, ◌≤◌, Bool, true, false, cond, not, ◌&&◌, ◌||◌, ◌==◌, nat_lt, List, length, map, get_or, None, Option, refl, sym, ap, ◌∙◌, ◌⊎◌, inl, inr, arith}
+use Rattle.std.proofs.Common.{◌≡◌, ℕ, ◌<◌, Bool, true, false, cond, not, ◌&&◌, ◌||◌, ◌==◌, nat_lt, List, length, None, Option, refl, sym, ap, ◌∙◌, inl, inr, arith}
 use Rattle.std.proofs.lemmas.Bool.{cases_lt}
 use Rattle.std.proofs.lemmas.List.{get_or_past}
 use Rattle.std.proofs.lemmas.List.FromFn.{get_or-map-range_with_len}
-use Rattle.configuration.specs.Saying.{said_for, said_in, said_under}
+use Rattle.configuration.specs.Saying.{said_for}
 use Rattle.configuration.specs.declared.said.Said.{Said}
 use Rattle.fault.specs.declared.mark.Mark.{Mark}
 use Rattle.fault.specs.declared.refusal.Refusal.TheVariants.{ReservedDestination}
@@ -16,7 +16,7 @@ use Rattle.rules.specs.Calls.{flood, refusing, relay}
 use Rattle.rules.specs.Ports.{Ports, has, ports_where}
 use Rattle.rules.specs.Relay.{any_says, decided, decides, entry_lets, forwards, let_through}
 use Rattle.rules.specs.Settings.{Settings, is_filter, is_forward, is_member, verdict_at}
-use Rattle.rules.specs.State.{State, state_of as state_at}
+use Rattle.rules.specs.State.{State, state_at}
 use Rattle.rules.specs.declared.ports.PortState.{PortState}
 use Rattle.rules.specs.declared.vlans.Verdict.{Verdict}
 use Rattle.rules.specs.declared.vlans.Verdict.TheVariants.{Forward, Filter, Silent}
@@ -34,31 +34,18 @@ by_all true y z = refl
 by_all false true z = refl
 by_all false false z = refl
 
-flag_is : (f : ℕ → Bool) (p : ℕ) → p < 16 → has (ports_where f) p ≡ f p
-flag_is f p l = get_or-map-range_with_len f 0 16 p p false l (omega arith)
+lets_of : (f g : ℕ → Bool) (known : Option ℕ) (p : ℕ) → p < 16 → lets (record { forward = ports_where f; filter = ports_where g }) known p ≡ (f p || (not (g p) && entry_lets known p))
+lets_of f g known p l =
+    ap (λ (t : Bool). t || (not (has (ports_where g) p) && entry_lets known p)) (get_or-map-range_with_len f 0 16 p p false l (omega arith))
+    ∙ ap (λ (t : Bool). f p || (not t && entry_lets known p)) (get_or-map-range_with_len g 0 16 p p false l (omega arith))
 
--- for a group and for an individual address
-by_kind : (σ : Settings) (s : State) (v : Vlan) (a : List ℕ) (p : ℕ) → p < 16 → (t : Bool)
-    → lets (cond t (said_under σ v.vid a) (said_in σ v.fid a)) (cond t None (entry_port (lookup s.entries v.fid a))) p
-    ≡ cond t (not (is_filter (verdict_at σ v.vid a p)))
-    (cond (any_says is_forward σ σ.statics v.fid a p) true
-    (cond (any_says is_filter σ σ.statics v.fid a p) false (entry_lets (entry_port (lookup s.entries v.fid a)) p)))
-by_kind σ s v a p l true =
-    let forward : ℕ → Bool = λ p. is_forward (verdict_at σ v.vid a p) in
-    let filter' : ℕ → Bool = λ p. is_filter (verdict_at σ v.vid a p) in
-    ap (λ (t : Bool). t || (not (has (ports_where filter') p) && true)) (flag_is forward p l)
-    ∙ ap (λ (t : Bool). forward p || (not t && true)) (flag_is filter' p l)
-    ∙ by_group (verdict_at σ v.vid a p)
-by_kind σ s v a p l false =
-    let forward : ℕ → Bool = any_says is_forward σ σ.statics v.fid a in
-    let filter' : ℕ → Bool = any_says is_filter σ σ.statics v.fid a in
-    let known : Bool = entry_lets (entry_port (lookup s.entries v.fid a)) p in
-    ap (λ (t : Bool). t || (not (has (ports_where filter') p) && known)) (flag_is forward p l)
-    ∙ ap (λ (t : Bool). forward p || (not t && known)) (flag_is filter' p l)
-    ∙ by_all (forward p) (filter' p) known
-
-lets_is : (σ : Settings) (s : State) (v : Vlan) (a : List ℕ) (p : ℕ) → p < 16 → lets (said_for σ v a) (known_port s.entries v.fid a) p ≡ let_through σ s v a p
-lets_is σ s v a p l = by_kind σ s v a p l (group a)
+lets_by : (σ : Settings) (s : State) (v : Vlan) (a : List ℕ) (p : ℕ) → p < 16 → (t : Bool) → group a ≡ t → lets (said_for σ v a) (known_port s.entries v.fid a) p ≡ let_through σ s v a p
+lets_by σ s v a p l true g =
+    rw g (lets_of (λ q. is_forward (verdict_at σ v.vid a q)) (λ q. is_filter (verdict_at σ v.vid a q)) None p l ∙ by_group (verdict_at σ v.vid a p))
+lets_by σ s v a p l false g =
+    let known = entry_port (lookup s.entries v.fid a) in
+    rw g (lets_of (any_says is_forward σ σ.statics v.fid a) (any_says is_filter σ σ.statics v.fid a) known p l
+    ∙ by_all (any_says is_forward σ σ.statics v.fid a p) (any_says is_filter σ σ.statics v.fid a p) (entry_lets known p))
 
 pub decided_is : (σ : Settings) (s : State) (q count : ℕ) (v : Vlan) (a : List ℕ) (said : Said) (known : Option ℕ) → count ≡ σ.ports → said ≡ said_for σ v a → known ≡ known_port s.entries v.fid a
     → ports_where (goes_to count s.states q v.members said known) ≡ decided σ s q v a
@@ -67,7 +54,7 @@ decided_is σ s q count v a said known n e k =
     ∙ ap (λ (x : Said). ports_where (goes_to σ.ports s.states q v.members x known)) e
     ∙ ap (λ (o : Option ℕ). ports_where (goes_to σ.ports s.states q v.members (said_for σ v a) o)) k
     ∙ map_same (goes_to σ.ports s.states q v.members (said_for σ v a) (known_port s.entries v.fid a)) (decides σ s q v a) 16
-    (λ p l. ap (λ (t : Bool). nat_lt p σ.ports && not (p == q) && forwards (state_at s p) && is_member v p && t) (lets_is σ s v a p l))
+    (λ p l. ap (λ (t : Bool). nat_lt p σ.ports && not (p == q) && forwards (state_at s p) && is_member v p && t) (lets_by σ s v a p l (group a) refl))
 
 first_of_all : (a b c d e : Bool) → (a && b && c && d && e) ≡ true → a ≡ true
 first_of_all true b c d e h = refl

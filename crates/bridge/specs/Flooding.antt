@@ -7,7 +7,7 @@ use Rattle.queues.specs.Laying.{laid_one, next_one}
 use Rattle.queues.specs.Rings.{is_queue, number_of}
 use Rattle.queues.specs.Standing.{queues_of, slots_of}
 use Rattle.queues.specs.declared.queues.Queues.{Queues}
-use Rattle.rules.specs.Egress.{class_of, egress_tag}
+use Rattle.rules.specs.Egress.{cell_for, class_of, egress_tag}
 use Rattle.rules.specs.Ports.{Ports, has}
 use Rattle.rules.specs.State.{Queued}
 use Rattle.rules.specs.declared.shape.Shape.{Shape}
@@ -29,11 +29,10 @@ abbrev pub laid_once : Shape → ℕ → (ℕ → Queued) → ℕ → Flood → 
 laid_once shape priority frame p now =
     let c = class_of shape.classes priority in
     cond (is_queue shape p c && nat_lt (length (now.queues p c)) shape.depth)
-    (record {
+    (record now {
       queues = laid_one p c (frame p) now.queues;
       slots = next_one shape.depth p c now.slots;
-      memory = put_at now.memory (1518 * (number_of shape p c * shape.depth + now.slots p c)) (frame p).bytes;
-      no_room = now.no_room;
+      memory = put_at now.memory (cell_for shape.classes shape.depth p c (now.slots p c)) (frame p).bytes;
     })
     (record now { no_room = slice_set now.no_room p true })
 

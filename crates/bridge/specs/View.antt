@@ -5,7 +5,7 @@ use Rattle.table.specs.declared.entry.Entry.{Entry}
 use Rattle.selector.specs.declared.selector.Selector
 use Rattle.queues.specs.Standing.{queues_of, slots_of}
 use Rattle.rules.specs.declared.ports.PortState.TheVariants.{Disabled}
-use Rattle.rules.specs.Calls.{memory_needed}
+use Rattle.rules.specs.Egress.{memory_needed}
 use Rattle.rules.specs.Settings.{Settings}
 use Rattle.rules.specs.State.{State, frame_stands, standing_classes}
 use Rattle.bridge.specs.declared.bridge.Bridge.{Bridge}

@@ -31,8 +31,16 @@ pub struct Bridge<T: Table + Drop, S: Selector + Drop> {
 
 impl<T: Table + Drop, S: Selector + Drop> Bridge<T, S> {
     ghost use Rattle.std.specs.Prelude.{◌≡◌, length, nat_le, nat_lt};
-    ghost use Rattle.rules.specs.Calls.{memory_needed};
+    ghost use Rattle.rules.specs.Egress.{memory_needed};
     ghost use Rattle.bridge.specs.View.{settings_of};
+
+    /// How many bytes of frame memory the bridge needs at least, for each call that is lent one.
+    #[inline]
+    pub fn memory_needed(&self) -> usize
+        ensures { result ≡ memory_needed (settings_of self.now) }
+    {
+        self.queues.memory_needed()
+    }
 
     // Whether there is such a port.
     #[inline]

@@ -10,10 +10,10 @@ use selector::selector::Selector;
 use table::table::Table;
 
 /// The first time that is too large, in milliseconds.
-pub const TIMES: u64 = 1 << 40;
+pub const TIME_LIMIT: u64 = 1 << 40;
 
 impl<T: Table + Drop, S: Selector + Drop> Bridge<T, S> {
-    /// Sets the clock to a time in milliseconds, and removes the addresses that were not heard since the ageing time ended.
+    /// Sets the clock to a time in milliseconds, and removes the addresses last heard the ageing time before it, or earlier.
     /// Asks whether the bridge is started (1), the time is not before the clock (17), and it is less than 2 to the 40th
     /// (18).
     pub fn advance(&mut self, time: u64) -> Result<(), Refusal>
@@ -27,7 +27,7 @@ impl<T: Table + Drop, S: Selector + Drop> Bridge<T, S> {
         if time < self.clock {
             return Err(Refusal::TimeBeforeClock);
         }
-        if time >= TIMES {
+        if time >= TIME_LIMIT {
             return Err(Refusal::TimeTooLarge);
         }
         self.clock = time;

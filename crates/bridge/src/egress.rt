@@ -2,10 +2,10 @@
 ghost use Rattle.std.specs.Prelude.{◌≡◌, ◌<◌, ◌≤◌, length, nat_le, true};
 ghost use Rattle.frame.specs.Reading.{picture};
 ghost use Rattle.queues.specs.Rings.{needed_for};
-ghost use Rattle.rules.specs.Egress.{class_of, egress_tag, sendable};
+ghost use Rattle.rules.specs.Egress.{class_of, egress_tag, memory_needed, sendable};
 ghost use Rattle.rules.specs.Ports.{no_ports};
 ghost use Rattle.sets.specs.Sets.{members};
-ghost use Rattle.rules.specs.Calls.{flood, memory_needed, outcome};
+ghost use Rattle.rules.specs.Calls.{flood, outcome};
 ghost use Rattle.bridge.specs.Flooding.{OfPorts, Writable, flood_of, laid_once, laid_over};
 ghost use Rattle.bridge.specs.LaidBy.{PlacedIn, laid_by};
 ghost use Rattle.bridge.specs.Told.{told_received};
@@ -23,7 +23,7 @@ use sets::number_set::PortSet;
 use table::table::Table;
 
 // For each priority its traffic class, where there are one to eight classes.
-const CLASSES: [[u8; 8]; 8] = [
+const CLASS_TABLE: [[u8; 8]; 8] = [
     [0, 0, 0, 0, 0, 1, 1, 1],
     [0, 0, 0, 0, 0, 0, 0, 0],
     [0, 0, 0, 1, 1, 2, 2, 2],
@@ -43,7 +43,7 @@ fn class_of(classes: u8, priority: u8) -> u8
     requires priority { priority ≤ 7 }
     ensures { result ≡ class_of classes priority }
 {
-    CLASSES[usize::from(priority)][usize::from(classes - 1)]
+    CLASS_TABLE[usize::from(priority)][usize::from(classes - 1)]
 }
 
 // The tag of a frame that leaves from a port.

@@ -4,7 +4,8 @@ ghost use Rattle.fault.specs.declared.mark.Mark.TheVariants.{Unlearned};
 ghost use Rattle.table.specs.Calls.{after_learn, mark_at};
 ghost use Rattle.table.specs.Entries.{count_of, is_fid, lookup};
 ghost use Rattle.frame.specs.Reading.{picture};
-ghost use Rattle.rules.specs.Calls.{learning, memory_needed, outcome};
+ghost use Rattle.rules.specs.Calls.{learning, outcome};
+ghost use Rattle.rules.specs.Egress.{memory_needed};
 ghost use Rattle.rules.specs.Relay.{learnable};
 ghost use Rattle.bridge.specs.Flooding.{Writable};
 ghost use Rattle.bridge.specs.LaidBy.{PlacedIn, laid_by};
@@ -33,6 +34,7 @@ pub(crate) fn learn<T: Table>(table: &mut T, learnable: bool, entry: Entry) -> M
     if !learnable {
         return Mark::Unlearned;
     }
+    // The FID is in range, so nothing is refused.
     match table.learn(entry) {
         Ok(mark) => mark,
         Err(_) => Mark::Unlearned,

@@ -51,8 +51,8 @@ impl<T: Table + Drop, S: Selector + Drop> Bridge<T, S> {
         }
         let parts = read(frame)?;
         let settings = self.settings_at(port);
-        let vlan = *self.vlans.ingress(&settings, port, parts.tag)?;
-        let (_, priority) = classify(&settings, parts.tag);
+        let (vid, priority) = classify(&settings, parts.tag);
+        let vlan = *self.vlans.ingress(&settings, port, parts.tag, vid)?;
         self.learn_and_relay(memory, port, &parts, &vlan, priority)
     }
 }

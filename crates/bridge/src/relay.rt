@@ -1,7 +1,8 @@
 //! Which ports a frame goes to.
 ghost use Rattle.std.specs.Prelude.{◌≡◌, ◌<◌, ◌≤◌, not, ◌&&◌, ◌==◌, length, map, nat_le, nat_lt, true};
 ghost use Rattle.frame.specs.Reading.{picture};
-ghost use Rattle.rules.specs.Calls.{memory_needed, outcome, relay};
+ghost use Rattle.rules.specs.Calls.{outcome, relay};
+ghost use Rattle.rules.specs.Egress.{memory_needed};
 ghost use Rattle.rules.specs.Ports.{has, ports_where};
 ghost use Rattle.rules.specs.Relay.{forwards};
 ghost use Rattle.table.specs.Entries.{is_fid};
@@ -36,10 +37,12 @@ pub(crate) fn known_port<T: Table>(table: &mut T, fid: u8, destination: [u8; 6])
     if is_group(destination) {
         return None;
     }
-    match table.find(Key {
+    let key = Key {
         fid,
         address: destination,
-    }) {
+    };
+    // The FID is in range, so nothing is refused.
+    match table.find(key) {
         Ok(port) => port,
         Err(_) => None,
     }

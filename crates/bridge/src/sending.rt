@@ -1,5 +1,5 @@
 //! Sending a frame: the oldest of the class that the selector picks.
-ghost use Rattle.std.specs.Prelude.{◌≡◌, ◌<◌, true, Some, length};
+ghost use Rattle.std.specs.Prelude.{◌≡◌, ◌<◌, ◌≤◌, true, IfOk, Some, length};
 ghost use Rattle.queues.specs.Taking.{can_take};
 ghost use Rattle.rules.specs.Calls.{choosing, outcome, perform, send, sent_to};
 ghost use Rattle.bridge.specs.Told.{told_sent};
@@ -20,6 +20,7 @@ fn pick<S: Selector>(selector: &mut S, port: u8, standing: &ClassSet) -> Option<
     ensures answer { result ≡ S.choice selector.old port standing.now }
     ensures later { selector.new ≡ S.after selector.old port standing.now }
 {
+    // A selector serves every port that a bridge can have, so nothing is refused.
     match selector.pick(port, standing) {
         Ok(class) => class,
         Err(_) => None,
@@ -40,13 +41,14 @@ impl<T: Table + Drop, S: Selector + Drop> Bridge<T, S> {
         ensures output { output.new ≡ sent_to (told_sent result output.new) output.old }
         ensures settings { settings_of self.new ≡ settings_of self.old }
         ensures selector { self.new.selector ≡ self.old.selector }
+        ensures fits { IfOk result (λ sent. sent.length ≤ length output.new) }
     {
-        let Some(record) = self.queues.take(memory, port, class, output) else {
+        let Some(label) = self.queues.take(memory, port, class, output) else {
             return Err(Refusal::NoFrameStands);
         };
         Ok(Sent {
-            length: usize::from(record.length),
-            vid: record.vid,
+            length: usize::from(label.length),
+            vid: label.vid,
             class,
         })
     }
@@ -59,6 +61,7 @@ impl<T: Table + Drop, S: Selector + Drop> Bridge<T, S> {
         ensures output { output.new ≡ sent_to (told_sent result output.new) output.old }
         ensures settings { settings_of self.new ≡ settings_of self.old }
         ensures selector { self.new.selector ≡ selector_after self.old memory.now port (length output.old) }
+        ensures fits { IfOk result (λ sent. sent.length ≤ length output.new) }
     {
         if !self.started {
             return Err(Refusal::NotStarted);

@@ -1,6 +1,5 @@
 -- What holds of each port of a set, by the ports in it.
-use Rattle.std.proofs.Common.{◌≡◌, ℕ, ◌<◌, ◌≤◌, Bool, true, false, cond, not, ◌&&◌, ◌||◌, List, [], ◌∷◌, length, filter, nat_lt, refl, ap, sym, ◌∙◌}
-use Rattle.std.proofs.lemmas.Bool.{le-ltb, lt-ltb}
+use Rattle.std.proofs.Common.{◌≡◌, ℕ, Bool, true, false, cond, not, ◌&&◌, ◌||◌, List, [], ◌∷◌, length, filter, nat_lt, refl, ap, sym, ◌∙◌}
 use Rattle.std.specs.List.{list_all, range_with_len}
 use Rattle.sets.specs.Sets.{holds, members}
 use Rattle.rules.specs.Ports.{Ports, has, sixteen}
@@ -35,9 +34,3 @@ each_below set n long =
 pub each_in : (set other : Ports) → length set ≡ 16 → list_all (has other) (members set) ≡ all_in set other sixteen
 each_in set other long =
     ap (λ (m : ℕ). list_all (has other) (filter (holds set) (range_with_len 0 m))) long ∙ in_among set other sixteen
-
-pub is_below : (p n : ℕ) → p < n → nat_lt p n ≡ true
-is_below p n l = lt-ltb p n l
-
-pub not_below : (p n : ℕ) → n ≤ p → nat_lt p n ≡ false
-not_below p n l = le-ltb p n l

@@ -1,5 +1,5 @@
--- What is kept true of static entries, so that a look-up ends at once where none is for the address, and each entry is the
--- one that is found for its VID and address.
+-- What is kept true of static entries, so that a look-up ends at once where none is for the address, and each entry is
+-- the one that is found for its VID and address.
 use Rattle.std.specs.Prelude.{◌≡◌, ℕ, ◌<◌, Bool, true, false, List, length, Some, None, Option, slice_index, slice_index_or}
 use Rattle.std.specs.List.{AllByRecursion, list_any}
 use Rattle.std.specs.Str.{bytes_eq}

@@ -32,22 +32,22 @@ fn admits(port: &PortSettings, tag: Option<Tag>) -> bool
 }
 
 impl Vlans {
-    /// The VLAN of a frame that arrives at a port. Asks whether the port takes a frame with such a tag (8), the VLAN was
-    /// added (9), and the port is a member of it or does not filter (10).
+    /// The VLAN of a frame that arrives at a port and is classified to a VID. Asks whether the port takes a frame with such a tag (8), the VLAN
+    /// was added (9), and the port is a member of it or does not filter (10).
     pub fn ingress(
         &self,
         settings: &PortSettings,
         port: u8,
         tag: Option<Tag>,
+        vid: u16,
     ) -> Result<&Vlan, Refusal>
         ensures vlan { vlan_behind result ≡ cond (admitted settings.now tag)
-            (of_member settings.now port (vlan_of self.now (classified settings.now tag).0)) (Err FrameNotAdmitted) }
+            (of_member settings.now port (vlan_of self.now vid)) (Err FrameNotAdmitted) }
         ensures numbers { IfOk result (λ vlan. Numbered vlan.now) }
     {
         if !admits(settings, tag) {
             return Err(Refusal::FrameNotAdmitted);
         }
-        let (vid, _) = classify(settings, tag);
         let Some(vlan) = self.get(vid) else {
             return Err(Refusal::VlanNotCreated);
         };

@@ -94,8 +94,8 @@ impl Statics {
         said
     }
 
-    /// What is said of the ports for frames of a VLAN to an address: to an individual address by the entries under every
-    /// VID of the VLAN's filtering database, to a group by the entry under the VLAN's own VID.
+    /// What is said of the ports for frames of a VLAN to an address: to an individual address by the entries under
+    /// every VID of the VLAN's filtering database, to a group by the entry under the VLAN's own VID.
     pub fn said(&self, vlans: &Vlans, vlan: &Vlan, destination: [u8; 6]) -> Said
         ensures { (σ : Settings) → result ≡ said_for (with_these σ vlans.now self.now) vlan.now destination }
     {
@@ -134,8 +134,8 @@ impl Statics {
         self.rows.push_reserved(Row::new(entry));
     }
 
-    /// Adds a static entry. Asks whether its VLAN was added (9), no entry is for its VID and address (32), and there are
-    /// fewer than 64 entries (33).
+    /// Adds a static entry. Asks whether its VLAN was added (9), no entry is for its VID and address (32), and there
+    /// are fewer than 64 entries (33).
     #[tactic(auto, using(crate::proofs::Asking::fresh))]
     pub fn add(&mut self, vlans: &Vlans, entry: StaticEntry) -> Result<(), Refusal>
         ensures answer { result ≡ unless (asked_of_static vlans.now self.old entry) tt }

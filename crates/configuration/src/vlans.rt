@@ -47,7 +47,6 @@ fn is_vid(vid: u16) -> bool
     (1..=4094).contains(&vid)
 }
 
-#[tactic(auto, using(crate::proofs::Members::each_below, crate::proofs::Members::is_below, crate::proofs::Members::not_below))]
 fn lies_below(set: &PortSet, number: u8) -> bool
     ensures { result ≡ all_below set.now number sixteen }
 {
@@ -134,8 +133,8 @@ impl Vlans {
     }
 
     /// Adds a VLAN. Asks whether its VID is 1 to 4,094 (28), its FID is 1 to 16 (21), its members are ports of the
-    /// bridge (30), its untagged set lies within its members (31), no VLAN has its VID (32), and there are fewer than 64
-    /// VLANs (33).
+    /// bridge (30), its untagged set lies within its members (31), no VLAN has its VID (32), and there are fewer than
+    /// 64 VLANs (33).
     #[tactic(auto, using(crate::proofs::Asking::addable))]
     pub fn add(&mut self, shape: Shape, vlan: Vlan) -> Result<(), Refusal>
         ensures answer { result ≡ unless (asked_of_vlan shape.ports self.old vlan) tt }

@@ -1,8 +1,9 @@
 -- What laying a frame into a queue answers, and what it leaves.
-use Rattle.std.specs.Prelude.{ℕ, ◌+◌, ◌*◌, ◌%◌, Bool, cond, ◌&&◌, List, [], ◌∷◌, ◌++◌, ◌==◌, nat_le}
+use Rattle.std.specs.Prelude.{ℕ, ◌+◌, ◌%◌, Bool, cond, ◌&&◌, List, [], ◌∷◌, ◌++◌, ◌==◌, nat_le}
 use Rattle.std.specs.Option.{is_none}
 use Rattle.frame.specs.Reading.{Picture}
 use Rattle.frame.specs.Writing.{frame_of, put_at, shape_asked}
+use Rattle.rules.specs.Egress.{cell_for}
 use Rattle.rules.specs.State.{Queued}
 use Rattle.queues.specs.declared.queues.Queues.{Queues}
 use Rattle.queues.specs.Rings.{needed_for, number_of}
@@ -38,7 +39,7 @@ next_one depth port class = changed_at port class (λ slot. (slot + 1) % depth)
 
 -- the place of the cell where the next frame of a queue is laid
 abbrev pub next_place : Queues → ℕ → ℕ → ℕ
-next_place queues p c = 1518 * (number_of queues.shape p c * queues.shape.depth + slots_of queues p c)
+next_place queues p c = cell_for queues.shape.classes queues.shape.depth p c (slots_of queues p c)
 
 -- the frame memory with a frame in that cell
 abbrev pub written_next : Queues → ℕ → ℕ → Picture → List ℕ → List ℕ

@@ -2,6 +2,7 @@
 -- `next`, where the next frame will lie, going round from the last slot to the first. Queues are numbered by port,
 -- then class. What is said here of rings, labels and sets holds at all times.
 use Rattle.std.specs.Prelude.{◌≡◌, ℕ, ◌+◌, ◌-◌, ◌*◌, ◌<◌, ◌≤◌, Bool, false, cond, ◌&&◌, List, map, nat_lt, replicate, slice_index_or}
+use Rattle.rules.specs.Egress.{memory_for}
 use Rattle.rules.specs.Ports.{eight}
 use Rattle.rules.specs.declared.shape.Shape.{Shape}
 use Rattle.queues.specs.declared.label.Label.{Label}
@@ -22,7 +23,7 @@ oldest depth ring = (ring.next + depth) - ring.count
 
 -- the bytes of all cells
 abbrev pub needed_for : Shape → ℕ
-needed_for shape = shape.ports * shape.classes * shape.depth * 1518
+needed_for shape = memory_for shape.ports shape.classes shape.depth
 
 -- whether there is a queue for a port and a class, and its number
 abbrev pub is_queue : Shape → ℕ → ℕ → Bool

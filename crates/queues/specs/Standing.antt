@@ -36,8 +36,8 @@ unfoldable pub slots_of : Queues → ℕ → ℕ → ℕ
 slots_of queues = slots_in queues.shape queues.rings.items
 
 -- how many frames stand at a port in a class, whatever the memory
-unfoldable pub count_of : Queues → ℕ → ℕ → ℕ
-count_of queues = counts_in queues.shape queues.rings.items
+unfoldable pub frames_at : Queues → ℕ → ℕ → ℕ
+frames_at queues = counts_in queues.shape queues.rings.items
 
 -- how many frames stand in the classes below one
 abbrev pub counted_below : (ℕ → ℕ) → ℕ → ℕ
@@ -46,4 +46,4 @@ counted_below counts (suc c) = counted_below counts c + counts c
 
 -- whether a queue has room for one frame more
 abbrev pub has_room : Queues → ℕ → ℕ → Bool
-has_room queues p c = is_queue queues.shape p c && nat_lt (count_of queues p c) queues.shape.depth
+has_room queues p c = is_queue queues.shape p c && nat_lt (frames_at queues p c) queues.shape.depth

@@ -4,7 +4,7 @@ ghost use Rattle.std.specs.Option.{is_none};
 ghost use Rattle.frame.specs.Reading.{picture};
 ghost use Rattle.frame.specs.Writing.{shape_asked};
 ghost use Rattle.queues.specs.Rings.{needed_for};
-ghost use Rattle.queues.specs.Standing.{count_of, has_room, queues_of, slots_of};
+ghost use Rattle.queues.specs.Standing.{frames_at, has_room, queues_of, slots_of};
 ghost use Rattle.queues.specs.Laying.{can_lay, counted_one, laid_one, next_one, queued, when, written_next};
 
 use crate::label::Label;
@@ -28,7 +28,7 @@ impl Queues {
         ensures answer { result ≡ can_lay self.old (length memory.old) port class (picture frame.now) }
         ensures queues { queues_of self.new memory.new ≡ when result (laid_one port class (queued vid (picture frame.now))) (queues_of self.old memory.old) }
         ensures slots { slots_of self.new ≡ when result (next_one self.old.shape.depth port class) (slots_of self.old) }
-        ensures counts { count_of self.new ≡ when result (counted_one port class) (count_of self.old) }
+        ensures counts { frames_at self.new ≡ when result (counted_one port class) (frames_at self.old) }
         ensures memory { memory.new ≡ when result (written_next self.old port class (picture frame.now)) memory.old }
         ensures shape { self.new.shape ≡ self.old.shape }
         ensures refused { result ≡ false → self.new ≡ self.old }
@@ -53,7 +53,7 @@ impl Queues {
         ensures answer { result ≡ is_none (shape_asked (picture frame.now)) }
         ensures queues { queues_of self.new memory.new ≡ when result (laid_one port class (queued vid (picture frame.now))) (queues_of self.old memory.old) }
         ensures slots { slots_of self.new ≡ when result (next_one self.old.shape.depth port class) (slots_of self.old) }
-        ensures counts { count_of self.new ≡ when result (counted_one port class) (count_of self.old) }
+        ensures counts { frames_at self.new ≡ when result (counted_one port class) (frames_at self.old) }
         ensures memory { memory.new ≡ when result (written_next self.old port class (picture frame.now)) memory.old }
         ensures shape { self.new.shape ≡ self.old.shape }
         ensures refused { result ≡ false → self.new ≡ self.old }

@@ -1,7 +1,7 @@
 // What is kept of one queue.
 ghost use Rattle.std.specs.Prelude.{◌≡◌, ◌+◌, ◌*◌, ◌<◌, ◌≤◌, true, vec_len, nat_lt, slice_index_or, slice_set};
 ghost use Rattle.queues.specs.Rings.{Turns, is_queue, needed_for, no_label, number_of, ring_at};
-ghost use Rattle.queues.specs.Standing.{count_of};
+ghost use Rattle.queues.specs.Standing.{frames_at};
 
 use crate::label::Label;
 use crate::queues::Queues;
@@ -59,7 +59,7 @@ impl Queues {
     // How many frames stand at a port in a class.
     #[inline]
     pub(crate) fn count(&self, port: u8, class: u8) -> u8
-        ensures is { result ≡ count_of self.now port class }
+        ensures is { result ≡ frames_at self.now port class }
         ensures most { result ≤ 64 }
     {
         if !self.is_queue(port, class) {

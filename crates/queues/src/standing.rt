@@ -3,7 +3,7 @@ ghost use Rattle.std.specs.Prelude.{◌≡◌, ℕ, List, length, map};
 ghost use Rattle.rules.specs.Ports.{eight};
 ghost use Rattle.rules.specs.State.{holds_frame, standing_in};
 ghost use Rattle.queues.specs.Rings.{classes_in};
-ghost use Rattle.queues.specs.Standing.{count_of, counted_below, has_room, queues_of};
+ghost use Rattle.queues.specs.Standing.{frames_at, counted_below, has_room, queues_of};
 
 use crate::queues::Queues;
 use sets::number_set::{ClassSet, PORTS};
@@ -14,7 +14,7 @@ impl Queues {
     #[tactic(auto, using(crate::proofs::Counts::counted))]
     pub fn has_room(&self, port: u8, class: u8) -> bool
         ensures value { result ≡ has_room self.now port class }
-        ensures count { (memory : List ℕ) → length (queues_of self.now memory port class) ≡ count_of self.now port class }
+        ensures count { (memory : List ℕ) → length (queues_of self.now memory port class) ≡ frames_at self.now port class }
     {
         self.is_queue(port, class) && self.count(port, class) < self.shape.depth()
     }
@@ -51,7 +51,7 @@ impl Queues {
 
     // How many frames stand at a port, whatever the memory.
     fn total(&self, port: u8) -> usize
-        ensures { result ≡ counted_below (count_of self.now port) 8 }
+        ensures { result ≡ counted_below (frames_at self.now port) 8 }
     {
         let mut total = 0;
         for class in 0..self.shape.classes() {

@@ -2,7 +2,7 @@
 ghost use Rattle.std.specs.Prelude.{◌≡◌, ℕ, ◌+◌, ◌<◌, ◌≤◌, cond, IfSome, List, None, Some, length};
 ghost use Rattle.frame.specs.Writing.{put_at};
 ghost use Rattle.queues.specs.Rings.{needed_for};
-ghost use Rattle.queues.specs.Standing.{count_of, queues_of, slots_of};
+ghost use Rattle.queues.specs.Standing.{frames_at, queues_of, slots_of};
 ghost use Rattle.queues.specs.Laying.{when};
 ghost use Rattle.queues.specs.Taking.{can_take, handed_out, offered, taken_of, without_oldest};
 
@@ -56,7 +56,7 @@ impl Queues {
 
     // Copies the oldest frame of a queue in which one stands to the front of the output memory.
     fn copy_oldest(&self, memory: &[u8], port: u8, class: u8, output: &mut [u8]) -> Label
-        requires stands { 0 < count_of self.now port class }
+        requires stands { 0 < frames_at self.now port class }
         requires memory { needed_for self.now.shape ≤ length memory.now }
         requires output { 1518 ≤ length output.old }
         ensures label { Some result ≡ taken_of (queues_of self.now memory.now port class) }

@@ -2,7 +2,8 @@
 use Rattle.std.proofs.Common.{◌≡◌, ℕ, zero, suc, ◌<◌, true, false, cond, eqb, ltb, leb, List, [], ◌∷◌, length, Some, None, Option, sym, refl, ap, ◌∙◌, subst, subst₂, arith, lit<}
 use Rattle.std.proofs.lemmas.Bool.{and_parts, cond-true, cond_both, eq-eqb, eqb-true, false≢true, lt-ltb, true≢false}
 use Rattle.fault.specs.declared.refusal.Refusal.TheVariants.{NoFrameStands}
-use Rattle.rules.specs.Calls.{Answer, Call, advance, choosing, event, find, flush, handing, memory_needed, perform, picking, receive, refused, refusing, send, standing}
+use Rattle.rules.specs.Egress.{memory_needed}
+use Rattle.rules.specs.Calls.{Answer, Call, advance, choosing, event, find, flush, handing, perform, picking, receive, refused, refusing, send, standing}
 use Rattle.rules.specs.Laws.{Drained, Draining, all_roomy_sends, is_roomy_send, is_sent, standing_number}
 use Rattle.rules.specs.Ports.{eight}
 use Rattle.rules.specs.Runs.{Chooses, ChoosesAt, Goes, Path', Step}

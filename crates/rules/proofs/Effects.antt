@@ -20,14 +20,14 @@ use Rattle.rules.specs.declared.ports.PortSettings.{PortSettings}
 use Rattle.rules.specs.declared.ports.PortState.{PortState}
 use Rattle.rules.specs.declared.ports.PortState.TheVariants.{Disabled, Blocking, Listening, Learning, Forwarding}
 use Rattle.rules.specs.declared.vlans.Vlan.{Vlan}
-use Rattle.rules.specs.Calls.{Answer, Call, Outcome, advance, asking, choosing, emptied, emptied_queues, entering, event, event_of, find, finding, flood, flush, flushing, handing, happening, learning, memory_needed, moved, moving, next_state, outcome, perform, reading, receive, received, refusing, relay, send, sent, standing}
-use Rattle.rules.specs.Egress.{lays_in, without_room, sendable}
+use Rattle.rules.specs.Calls.{Answer, Call, Outcome, advance, asking, choosing, emptied, emptied_queues, entering, event, event_of, find, finding, flood, flush, flushing, handing, happening, learning, moved, moving, next_state, outcome, perform, reading, receive, received, refusing, relay, send, sent, standing}
+use Rattle.rules.specs.Egress.{lays_in, memory_needed, sendable, without_room}
 use Rattle.rules.specs.Ingress.{admitted, classified_at, ingress, of_member, read_at}
 use Rattle.rules.specs.Steps.{as_emptied, as_received, as_sent}
 use Rattle.rules.specs.Relay.{decided, decides, forwards, learnable, learned, learns}
 use Rattle.rules.specs.Runs.{Chooses, ChoosesAt, Goes, Step}
 use Rattle.rules.specs.Settings.{Settings, is_member, port_settings, vlan_of}
-use Rattle.rules.specs.State.{Queued, State, frame_stands, holds_frame, standing_at, standing_classes, state_of}
+use Rattle.rules.specs.State.{Queued, State, frame_stands, holds_frame, standing_at, standing_classes, state_at}
 use Rattle.rules.proofs.IsoSettings.{found_again}
 use Rattle.rules.proofs.Numbers.{flagged, sixteen_has}
 
@@ -46,7 +46,7 @@ pub record Same (s t : State) : Type 0 where
 -- why a frame that arrived at port q goes to port p
 pub record Due (s : State) (q : ℕ) (v : Vlan) (p : ℕ) : Type 0 where
   pub elsewhere : eqb p q ≡ false
-  pub forwarding : forwards (state_of s p) ≡ true
+  pub forwarding : forwards (state_at s p) ≡ true
   pub member : is_member v p ≡ true
 
 -- an accepted receive lays its frame at each decided port with room
@@ -95,7 +95,7 @@ pub record Moves (s : State) (p k : ℕ) (t : State) : Type 0 where
   pub new : PortState
   pub states : t.states ≡ set s.states p new
   pub number : k ≡ 0
-  pub was : forwards (state_of s p) ≡ false
+  pub was : forwards (state_at s p) ≡ false
   pub queues : (q c : ℕ) → t.queues q c ≡ s.queues q c
 
 pub data Did (σ : Settings) (s : State) : Call → Answer → State → Type 0 where
@@ -160,12 +160,12 @@ module _ (σ : Settings) (s t : State) (e : Same s t) (q memory : ℕ) (frame : 
 
   relay_does : Does σ s (receive q frame memory) (relay σ t q picture v priority mark)
   relay_does =
-      asks (forwards (state_of t q)) (PortNotForwarding mark) t _ e
+      asks (forwards (state_at t q)) (PortNotForwarding mark) t _ e
       (asks (not (reserved picture.destination)) (ReservedDestination mark) t _ e flood_does)
 
 learning_does : (σ : Settings) (s : State) (q memory : ℕ) (frame : List ℕ) (picture : Picture) → read_at σ q frame ≡ Ok picture → (v : Vlan) → vlan_of σ.vlans v.vid ≡ Some v → (priority : ℕ) → Does σ s (receive q frame memory) (learning σ s q picture v priority)
 learning_does σ s q memory frame picture read v created priority =
-    asks (learns (state_of s q)) PortNotLearning s _ (same s)
+    asks (learns (state_at s q)) PortNotLearning s _ (same s)
     (relay_does σ s (learned σ s q v picture.source) (learned_same s (learnable σ v.vid q picture.source) _) q memory frame picture read v created priority _)
 
 no_err : {A X E : Type 0} {x : X} {r : E} → ◌≡◌ {A = Result X E} (Err r) (Ok x) → A
@@ -253,10 +253,10 @@ leaving_event_lem Forwarding new Choose f e = absurd (none-some new e)
 leaving_event_lem Forwarding new Drop f e = refl
 leaving_event_lem Forwarding new DelayOver f e = absurd (none-some new e)
 
-moved_does : (σ : Settings) (s : State) (p n : ℕ) (new : PortState) → (forwards (state_of s p) ≡ true → leaving n ≡ true) → Does σ s (event p n) (moved s p new)
-moved_does σ s p n new leaves = go (forwards (state_of s p)) refl
+moved_does : (σ : Settings) (s : State) (p n : ℕ) (new : PortState) → (forwards (state_at s p) ≡ true → leaving n ≡ true) → Does σ s (event p n) (moved s p new)
+moved_does σ s p n new leaves = go (forwards (state_at s p)) refl
   where
-    go : (b : Bool) → forwards (state_of s p) ≡ b
+    go : (b : Bool) → forwards (state_at s p) ≡ b
         → Does σ s (event p n)
         (cond b
         (outcome (emptied (standing_at s p)) (record s { states = set s.states p new; queues = emptied_queues s p }))
@@ -264,14 +264,14 @@ moved_does σ s p n new leaves = go (forwards (state_of s p)) refl
     go true f = cleared (record { started = refl; new = new; states = refl; number = refl; leaves = leaves f; queues = λ q c. refl })
     go false f = shifted (record { started = refl; new = new; states = refl; number = refl; was = f; queues = λ q c. refl })
 
-moving_does : (σ : Settings) (s : State) (p n : ℕ) (x : PortEvent) → event_of n ≡ Some x → (o : Option PortState) → next_state (state_of s p) x ≡ o → Does σ s (event p n) (moving s p o)
+moving_does : (σ : Settings) (s : State) (p n : ℕ) (x : PortEvent) → event_of n ≡ Some x → (o : Option PortState) → next_state (state_at s p) x ≡ o → Does σ s (event p n) (moving s p o)
 moving_does σ s p n x is None e = refuses (same s) NoTransition
 moving_does σ s p n x is (Some new) e =
-    moved_does σ s p n new (λ f. leaving_number n (ap leaving_event is ∙ leaving_event_lem (state_of s p) new x f e))
+    moved_does σ s p n new (λ f. leaving_number n (ap leaving_event is ∙ leaving_event_lem (state_at s p) new x f e))
 
 happening_does : (σ : Settings) (s : State) (p n : ℕ) (o : Option PortEvent) → event_of n ≡ o → Does σ s (event p n) (happening s p o)
 happening_does σ s p n None e = refuses (same s) UnknownEvent
-happening_does σ s p n (Some x) e = moving_does σ s p n x e (next_state (state_of s p) x) refl
+happening_does σ s p n (Some x) e = moving_does σ s p n x e (next_state (state_at s p) x) refl
 
 -- EVERY CALL
 

@@ -10,12 +10,13 @@ use Rattle.table.specs.Calls.{answered, flushed}
 use Rattle.table.specs.Rising.{rises}
 use Rattle.rules.specs.Ports.{Ports, has_any}
 use Rattle.rules.specs.declared.vlans.Vlan.{Vlan}
-use Rattle.rules.specs.Calls.{Call, Outcome, advance, asking, choosing, counted, entering, event, find, finding, flood, flush, flushing, handing, learning, memory_needed, outcome, perform, picking, reading, receive, receiving, refusing, relay, send, sending, standing}
+use Rattle.rules.specs.Egress.{memory_needed}
+use Rattle.rules.specs.Calls.{Call, Outcome, advance, asking, choosing, counted, entering, event, find, finding, flood, flush, flushing, handing, learning, outcome, perform, picking, reading, receive, receiving, refusing, relay, send, sending, standing}
 use Rattle.rules.specs.Ingress.{admitted, classified_at, of_member, read_at}
 use Rattle.rules.specs.Laws.{concerns, concerns_frame}
 use Rattle.rules.specs.Relay.{decided, forwards, learnable, learned, learns, mark_of}
 use Rattle.rules.specs.Settings.{Settings, is_member, is_of, port_settings, vlan_of}
-use Rattle.rules.specs.State.{Queued, State, frame_stands, standing_at, state_of}
+use Rattle.rules.specs.State.{Queued, State, frame_stands, standing_at, state_at}
 use Rattle.rules.proofs.IsoTable.{view_other_flushed, view_other_learned, view_same}
 use Rattle.rules.proofs.IsoStep.{Same}
 
@@ -38,7 +39,7 @@ skip_flood f σ s t frame v priority mark set h =
 
 skip_relay : (f : ℕ) (σ : Settings) (s t : State) (q : ℕ) (frame : Picture) (v : Vlan) (priority : ℕ) (mark : Mark) → Same f s t → Same f (relay σ s q frame v priority mark).after t
 skip_relay f σ s t q frame v priority mark h =
-    ask f (forwards (state_of s q)) (PortNotForwarding mark) s t _ h (λ _.
+    ask f (forwards (state_at s q)) (PortNotForwarding mark) s t _ h (λ _.
     ask f (not (reserved frame.destination)) (ReservedDestination mark) s t _ h (λ _.
     skip_flood f σ s t frame v priority mark (decided σ s q v frame.destination) h))
 
@@ -50,7 +51,7 @@ skip_learned f σ s q v a n r =
 
 skip_learning : (f : ℕ) (σ : Settings) (s : State) (q : ℕ) (frame : Picture) (v : Vlan) (priority : ℕ) → (v.fid ≡ f → ⊥) → rises s.entries ≡ true → Same f (learning σ s q frame v priority).after s
 skip_learning f σ s q frame v priority n r =
-    ask f (learns (state_of s q)) PortNotLearning s s _ (same_self f s r) (λ _.
+    ask f (learns (state_at s q)) PortNotLearning s s _ (same_self f s r) (λ _.
     skip_relay f σ (learned σ s q v frame.source) s q frame v priority (mark_of σ s q v frame.source) (skip_learned f σ s q v frame.source n r))
 
 skip_entering : (f : ℕ) (σ : Settings) (s : State) (q : ℕ) (frame : Picture) (o : Option Vlan) → is_of f o ≡ false → rises s.entries ≡ true → (b : Bool) → Same f (entering σ s q frame (cond b (of_member (port_settings σ q) q o) (Err FrameNotAdmitted))).after s

@@ -18,12 +18,13 @@ use Rattle.rules.specs.declared.ports.PortState.{PortState}
 use Rattle.rules.specs.declared.vlans.StaticEntry.{StaticEntry}
 use Rattle.rules.specs.declared.vlans.Verdict.{Verdict}
 use Rattle.rules.specs.declared.vlans.Vlan.{Vlan}
-use Rattle.rules.specs.Calls.{Call, Outcome, advance, advancing, ageing_time, asking, entering, event, event_of, eventing, find, finding, flood, flush, flushing, happening, learning, memory_needed, moving, next_state, perform, reading, receive, receiving, refusing, relay, send, standing}
+use Rattle.rules.specs.Egress.{memory_needed}
+use Rattle.rules.specs.Calls.{Call, Outcome, advance, advancing, ageing_time, asking, entering, event, event_of, eventing, find, finding, flood, flush, flushing, happening, learning, moving, next_state, perform, reading, receive, receiving, refusing, relay, send, standing}
 use Rattle.rules.specs.Ingress.{admitted, classified_at, ingress, of_member, read_at}
 use Rattle.rules.specs.Laws.{Alike, but_room, concerns, concerns_frame}
 use Rattle.rules.specs.Relay.{decided, entry_lets, forwards, learnable, learns, let_through}
 use Rattle.rules.specs.Settings.{Settings, is_filter, is_forward, is_member, is_of, is_silent, port_settings, vlan_of}
-use Rattle.rules.specs.State.{Queued, State, state_of}
+use Rattle.rules.specs.State.{Queued, State, state_at}
 use Rattle.rules.proofs.IsoTable.{View, view_aged, view_flushed, view_found, view_learned, view_left, view_lookup, view_number}
 use Rattle.rules.proofs.IsoSettings.{any_same, found_again, same_vlan, verdict_same}
 
@@ -86,13 +87,13 @@ module _ (σ : Settings) (vs : List Vlan) (es : List StaticEntry) (f : ℕ) (s :
   moving_agrees : (p : ℕ) (o : Option PortState) → Agree f (moving s p o) (moving (beside s m k n) p o)
   moving_agrees p None = no_agrees NoTransition
   moving_agrees p (Some new) =
-      either f (forwards (state_of s p)) _ _ _ _
+      either f (forwards (state_at s p)) _ _ _ _
       (record { answer = refl; after = record { started = refl; clock = refl; states = refl; entries = h } })
       (record { answer = refl; after = record { started = refl; clock = refl; states = refl; entries = h } })
 
   happening_agrees : (p : ℕ) (o : Option PortEvent) → Agree f (happening s p o) (happening (beside s m k n) p o)
   happening_agrees p None = no_agrees UnknownEvent
-  happening_agrees p (Some e) = moving_agrees p (next_state (state_of s p) e)
+  happening_agrees p (Some e) = moving_agrees p (next_state (state_at s p) e)
 
   event_agrees : (p e : ℕ) → Agree f (eventing σ s p e) (eventing (other σ vs es) (beside s m k n) p e)
   event_agrees p e =
@@ -131,18 +132,18 @@ module _ (σ : Settings) (vs : List Vlan) (es : List StaticEntry) (v : Vlan) (al
       let a = frame.destination in
       let lets : (p : ℕ) → let_through σ s v a p ≡ let_through (other σ vs es) (beside s m k n) v a p =
       λ p i. through (group a) (verdict_same alike v.vid a p here i) (any_same is_forward alike a p refl i) (any_same is_filter alike a p refl i) (view_lookup v.fid a s.entries m h i) p in
-      ap ports_where (fun_ext (λ p. ap (λ b. ltb p σ.ports && not (eqb p q) && forwards (state_of s p) && is_member v p && b) (lets p)))
+      ap ports_where (fun_ext (λ p. ap (λ b. ltb p σ.ports && not (eqb p q) && forwards (state_at s p) && is_member v p && b) (lets p)))
 
   relay_agrees : (s : State) (m : List Entry) (mark : Mark) → View v.fid s.entries m → Agree v.fid (relay σ s q frame v priority mark) (relay (other σ vs es) (beside s m k n) q frame v priority mark)
   relay_agrees s m mark h =
       let set = decided σ s q v frame.destination in
-      ask_agrees σ vs es v.fid s m k n h (forwards (state_of s q)) (PortNotForwarding mark) _ _
+      ask_agrees σ vs es v.fid s m k n h (forwards (state_at s q)) (PortNotForwarding mark) _ _
       (ask_agrees σ vs es v.fid s m k n h (not (reserved frame.destination)) (ReservedDestination mark) _ _
       (subst (λ x. Agree v.fid (flood σ s frame v priority mark set) (flood (other σ vs es) (beside s m k n) frame v priority mark x)) (decided_same s m h) (flood_agrees σ vs es v.fid s m k n h frame v priority mark set)))
 
   learning_agrees : (s : State) (m : List Entry) → View v.fid s.entries m → Agree v.fid (learning σ s q frame v priority) (learning (other σ vs es) (beside s m k n) q frame v priority)
   learning_agrees s m h =
-      ask_agrees σ vs es v.fid s m k n h (learns (state_of s q)) PortNotLearning _ _
+      ask_agrees σ vs es v.fid s m k n h (learns (state_at s q)) PortNotLearning _ _
       (subst (λ b. Agree v.fid (left (learnable σ v.vid q frame.source)) (right b)) (ap (λ x. not (group frame.source) && is_silent x) (verdict_same alike v.vid frame.source q here)) (both (learnable σ v.vid q frame.source)))
     where
       after : List Entry → List Entry

@@ -9,18 +9,18 @@ use Rattle.rules.specs.Calls.{Answer, Call}
 use Rattle.rules.specs.Egress.{lays_in, sendable}
 use Rattle.rules.specs.Relay.{forwards}
 use Rattle.rules.specs.Settings.{Settings}
-use Rattle.rules.specs.State.{State, at_start, state_of}
+use Rattle.rules.specs.State.{State, at_start, state_at}
 use Rattle.rules.proofs.Effects.{Did, Hands, Lays}
 use Rattle.rules.proofs.Effects.Did.{cleared, handed, laying, rested, shifted}
 
 abbrev pub Quiet : State → Type 0
-Quiet s = (p c : ℕ) → forwards (state_of s p) ≡ false → s.queues p c ≡ []
+Quiet s = (p c : ℕ) → forwards (state_at s p) ≡ false → s.queues p c ≡ []
 
 state_other : (l : List PortState) (p q : ℕ) (new : PortState) → eqb q p ≡ false → get_or (set l p new) q Disabled ≡ get_or l q Disabled
 state_other l p q new e = get_or-set_other l p q new Disabled (eqb-false q p e)
 
 module _ (s t : State) (quiet : Quiet s) where
-  same_quiet : t.states ≡ s.states → (p c : ℕ) → forwards (state_of t p) ≡ false → s.queues p c ≡ []
+  same_quiet : t.states ≡ s.states → (p c : ℕ) → forwards (state_at t p) ≡ false → s.queues p c ≡ []
   same_quiet states p c f = quiet p c (sym (ap (λ l. forwards (get_or l p Disabled)) states) ∙ f)
 
   laid_quiet : {σ : Settings} {q : ℕ} {frame : List ℕ} {r : Received} → Lays σ s q frame r t → Quiet t
@@ -30,7 +30,7 @@ module _ (s t : State) (quiet : Quiet s) where
           → t.queues p c ≡ cond b (s.queues p c ++ (sendable e.picture e.vlan r.classified.1 p ∷ [])) (s.queues p c) → t.queues p c ≡ []
       go true is now =
           let goes = (and_parts _ _ (and_parts _ _ is).0).0 in
-          absurd (both_ways (forwards (state_of t p)) f (ap (λ l. forwards (get_or l p Disabled)) e.states ∙ (e.due p goes).forwarding))
+          absurd (both_ways (forwards (state_at t p)) f (ap (λ l. forwards (get_or l p Disabled)) e.states ∙ (e.due p goes).forwarding))
       go false is now = now ∙ same_quiet e.states p c f
 
   handed_quiet : {q : ℕ} {x : Sent} {bytes : List ℕ} → Hands s q x bytes t → Quiet t

@@ -6,7 +6,7 @@ use Rattle.frame.specs.Address.{group}
 use Rattle.rules.specs.Egress.{cell_place}
 use Rattle.rules.specs.Relay.{any_says, decides, forwards, let_through}
 use Rattle.rules.specs.Settings.{Settings, is_filter, is_forward, is_of, verdict_at, vlan_of}
-use Rattle.rules.specs.State.{state_of}
+use Rattle.rules.specs.State.{state_at}
 use Rattle.rules.specs.Ways.{CellsApart, CellsWithin, DecidedPorts, FilterWins, ForwardWins, OwnGroupEntry}
 use Rattle.rules.specs.declared.ports.PortState.{PortState}
 use Rattle.rules.specs.declared.ports.PortState.TheVariants.{Disabled, Blocking, Listening, Learning, Forwarding}
@@ -32,7 +32,7 @@ decided_ports σ s q v a p h =
     record {
       port = ltb-true p σ.ports elsewhere.0;
       elsewhere = not-true _ elsewhere.1;
-      forwarding = is_forwarding (state_of s p) forward.1;
+      forwarding = is_forwarding (state_at s p) forward.1;
       member = member.1;
     }
 

@@ -16,12 +16,12 @@ use Rattle.rules.specs.declared.ports.PortEvent.TheVariants.{Enable, Disable, Ch
 use Rattle.rules.specs.declared.ports.PortState.{PortState}
 use Rattle.rules.specs.declared.ports.PortState.TheVariants.{Disabled, Blocking, Listening, Learning, Forwarding}
 use Rattle.rules.specs.declared.vlans.Vlan.{Vlan}
-use Rattle.rules.specs.Egress.{laid, laid_memory, without_room, sendable}
+use Rattle.rules.specs.Egress.{laid, laid_memory, memory_needed, without_room, sendable}
 use Rattle.rules.specs.Ingress.{classified_at, ingress, read_at}
 use Rattle.rules.specs.Ports.{Ports, has_any, sixteen}
 use Rattle.rules.specs.Relay.{decided, forwards, learned, learns, mark_of}
 use Rattle.rules.specs.Settings.{Settings, vlan_of}
-use Rattle.rules.specs.State.{Queued, State, frame_stands, standing_at, state_of}
+use Rattle.rules.specs.State.{Queued, State, frame_stands, standing_at, state_at}
 
 -- a call, with its numbers, its frame, and the sizes of the memories handed to it
 pub data Call : Type 0 where
@@ -59,10 +59,6 @@ refusing r s = outcome (refused r) s
 abbrev pub asking : Bool → Refusal → State → Outcome → Outcome
 asking yes' r s then' = cond yes' then' (refusing r s)
 
--- P × C × D cells of 1,518 bytes
-abbrev pub memory_needed : Settings → ℕ
-memory_needed σ = σ.ports * σ.classes * σ.depth * 1518
-
 -- RECEIVE, from its end to its beginning
 
 -- the decided ports that have room get the frame (14: there is a decided port)
@@ -76,14 +72,14 @@ flood σ s frame v priority mark set =
 -- after learning: the port forwards (12), the destination is not reserved (13)
 abbrev pub relay : Settings → State → ℕ → Picture → Vlan → ℕ → Mark → Outcome
 relay σ s q frame v priority mark =
-    asking (forwards (state_of s q)) (PortNotForwarding mark) s
+    asking (forwards (state_at s q)) (PortNotForwarding mark) s
     (asking (not (reserved frame.destination)) (ReservedDestination mark) s
     (flood σ s frame v priority mark (decided σ s q v frame.destination)))
 
 -- the port learns (11), and learning happens
 abbrev pub learning : Settings → State → ℕ → Picture → Vlan → ℕ → Outcome
 learning σ s q frame v priority =
-    asking (learns (state_of s q)) PortNotLearning s
+    asking (learns (state_at s q)) PortNotLearning s
     (relay σ (learned σ s q v frame.source) q frame v priority (mark_of σ s q v frame.source))
 
 abbrev pub entering : Settings → State → ℕ → Picture → Result Vlan Refusal → Outcome
@@ -171,7 +167,7 @@ emptied_queues s p q d = cond (q == p) [] (s.queues q d)
 abbrev pub moved : State → ℕ → PortState → Outcome
 moved s p new =
     let states = slice_set s.states p new in
-    cond (forwards (state_of s p))
+    cond (forwards (state_at s p))
     (outcome (emptied (standing_at s p)) (record s { states = states; queues = emptied_queues s p }))
     (outcome (emptied 0) (record s { states = states }))
 
@@ -181,7 +177,7 @@ moving s p (Some new) = moved s p new
 
 abbrev pub happening : State → ℕ → Option PortEvent → Outcome
 happening s p None = refusing UnknownEvent s
-happening s p (Some e) = moving s p (next_state (state_of s p) e)
+happening s p (Some e) = moving s p (next_state (state_at s p) e)
 
 abbrev pub eventing : Settings → State → ℕ → ℕ → Outcome
 eventing σ s p n =

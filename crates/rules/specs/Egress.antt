@@ -69,9 +69,19 @@ abbrev pub laid : Settings → State → Ports → Ports → ℕ → (ℕ → Qu
 laid σ s set full priority frame =
     record s { queues = laid_queues σ s set full priority frame; slots = laid_slots σ s set full priority }
 
--- where a queue's slot lies in the frame memory: cells of 1,518 bytes, by port, then class, then slot
+-- the bytes of frame memory for so many ports, classes and slots, and where the cell of one lies in it: cells of 1,518
+-- bytes, by port, then class, then slot
+abbrev pub memory_for : ℕ → ℕ → ℕ → ℕ
+memory_for ports classes depth = ports * classes * depth * 1518
+
+abbrev pub cell_for : ℕ → ℕ → ℕ → ℕ → ℕ → ℕ
+cell_for classes depth p c slot = 1518 * ((p * classes + c) * depth + slot)
+
+abbrev pub memory_needed : Settings → ℕ
+memory_needed σ = memory_for σ.ports σ.classes σ.depth
+
 abbrev pub cell_place : Settings → ℕ → ℕ → ℕ → ℕ
-cell_place σ p c slot = 1518 * ((p * σ.classes + c) * σ.depth + slot)
+cell_place σ p c slot = cell_for σ.classes σ.depth p c slot
 
 -- the place of a frame that is queued next at a port
 abbrev pub next_place : Settings → State → ℕ → ℕ → ℕ

@@ -6,8 +6,8 @@ use Rattle.fault.specs.declared.refusal.Refusal.{Refusal}
 use Rattle.fault.specs.declared.refusal.Refusal.TheVariants.{NoFrameStands}
 use Rattle.frame.specs.Reading.{Picture}
 use Rattle.frame.specs.Writing.{frame_of}
-use Rattle.rules.specs.Calls.{Answer, Call, advance, counted, emptied, event, find, flush, memory_needed, receive, received, refused, send, standing}
-use Rattle.rules.specs.Egress.{egress_tag, lays}
+use Rattle.rules.specs.Calls.{Answer, Call, advance, counted, emptied, event, find, flush, receive, received, refused, send, standing}
+use Rattle.rules.specs.Egress.{egress_tag, lays, memory_needed}
 use Rattle.rules.specs.Ingress.{classified_at, read_at}
 use Rattle.rules.specs.Ports.{no_ports}
 use Rattle.rules.specs.Runs.{Run, Step}
@@ -66,7 +66,7 @@ Isolation =
     → map (λ x. x.call) (concerning σ f r) ≡ map (λ x. x.call) (concerning τ f s)
     → map (λ x. but_room x.answer) (concerning σ f r) ≡ map (λ x. but_room x.answer) (concerning τ f s)
 
--- PAIRING: each frame sent is its own earlier received frame, in order.
+-- PAIRING: each frame sent is its own earlier received frame.
 
 -- a delivery is what some step of the run handed out at the port
 pub record Handed (p : ℕ) (steps : List Step) (d : Delivery) : Type 0 where
@@ -105,14 +105,16 @@ Pairing =
     (σ : Settings) (steps : List Step) → Run σ steps → (p : ℕ) (d : Delivery) → Handed p steps d
     → (r : Receipt) × PairsWith σ p steps d r × Pair σ p d r
 
--- of two frames that share port, VLAN and priority, the earlier received leaves first
+-- ORDER: of two frames that share port, VLAN and priority, the earlier received leaves first.
+
 abbrev pub Order : Type 0
 Order =
     (σ : Settings) (steps : List Step) → Run σ steps → (p : ℕ) (d e : Delivery) (r q : Receipt)
     → PairsWith σ p steps d r → PairsWith σ p steps e q
     → r.answer.classified ≡ q.answer.classified → r.at < q.at → d.at < e.at
 
--- no two sends at one port share a receive
+-- NO SHARING: no two sends at one port share a receive.
+
 abbrev pub NoSharing : Type 0
 NoSharing =
     (σ : Settings) (steps : List Step) → Run σ steps → (p : ℕ) (d e : Delivery) (r q : Receipt)

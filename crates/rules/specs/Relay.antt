@@ -13,7 +13,7 @@ use Rattle.rules.specs.declared.vlans.StaticEntry.{StaticEntry}
 use Rattle.rules.specs.declared.vlans.Verdict.{Verdict}
 use Rattle.rules.specs.declared.vlans.Vlan.{Vlan}
 use Rattle.rules.specs.Settings.{Settings, is_filter, is_forward, is_member, is_of, is_silent, verdict_at, vlan_of}
-use Rattle.rules.specs.State.{State, state_of}
+use Rattle.rules.specs.State.{State, state_at}
 
 abbrev pub learns : PortState → Bool
 learns Learning = true
@@ -60,7 +60,7 @@ let_through σ s v a p =
 -- whether a frame that arrived at port q goes to port p
 abbrev pub decides : Settings → State → ℕ → Vlan → List ℕ → ℕ → Bool
 decides σ s q v a p =
-    nat_lt p σ.ports && not (p == q) && forwards (state_of s p) && is_member v p && let_through σ s v a p
+    nat_lt p σ.ports && not (p == q) && forwards (state_at s p) && is_member v p && let_through σ s v a p
 
 abbrev pub decided : Settings → State → ℕ → Vlan → List ℕ → Ports
 decided σ s q v a = ports_where (decides σ s q v a)

@@ -35,8 +35,8 @@ at_start =
       slots = λ p c. 0;
     }
 
-abbrev pub state_of : State → ℕ → PortState
-state_of s p = slice_index_or s.states p Disabled
+abbrev pub state_at : State → ℕ → PortState
+state_at s p = slice_index_or s.states p Disabled
 
 -- how many frames stand in some classes of a port
 abbrev pub standing_in : (ℕ → List Queued) → List ℕ → ℕ

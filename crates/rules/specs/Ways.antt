@@ -2,12 +2,11 @@
 -- how the bridge finds out; these say what somebody who runs it may rely on.
 use Rattle.std.specs.Prelude.{◌≡◌, ℕ, ◌+◌, ◌<◌, ◌≤◌, true, false, List, Some, Option, nat_eq}
 use Rattle.frame.specs.Address.{group}
-use Rattle.rules.specs.Calls.{memory_needed}
-use Rattle.rules.specs.Egress.{cell_place}
+use Rattle.rules.specs.Egress.{cell_place, memory_needed}
 use Rattle.rules.specs.Ports.{has}
 use Rattle.rules.specs.Relay.{decided, let_through}
 use Rattle.rules.specs.Settings.{Settings, is_member, is_of, verdict_at, vlan_of}
-use Rattle.rules.specs.State.{State, state_of}
+use Rattle.rules.specs.State.{State, state_at}
 use Rattle.rules.specs.declared.ports.PortState.TheVariants.{Forwarding}
 use Rattle.rules.specs.declared.vlans.Verdict.TheVariants.{Filter, Forward}
 use Rattle.rules.specs.declared.vlans.Vlan.{Vlan}
@@ -16,7 +15,7 @@ use Rattle.rules.specs.declared.vlans.Vlan.{Vlan}
 pub record Reached (σ : Settings) (s : State) (q : ℕ) (v : Vlan) (p : ℕ) : Type 0 where
   pub port : p < σ.ports
   pub elsewhere : nat_eq p q ≡ false
-  pub forwarding : state_of s p ≡ Forwarding
+  pub forwarding : state_at s p ≡ Forwarding
   pub member : is_member v p ≡ true
 
 -- a decided port is another one than the arrival port, is Forwarding, and is a member of the VLAN

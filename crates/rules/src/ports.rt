@@ -34,7 +34,7 @@ pub enum PortState {
 pub enum PortEvent {
     /// 1: takes Disabled to Blocking.
     Enable,
-    /// 2: takes any other state to Disabled.
+    /// 2: takes any state but Disabled to Disabled.
     Disable,
     /// 3: takes Blocking to Listening.
     Choose,

@@ -19,7 +19,8 @@ pub struct Shape {
 }
 
 impl Shape {
-    ghost use Rattle.std.specs.Prelude.{◌≡◌, ◌*◌};
+    ghost use Rattle.std.specs.Prelude.{◌≡◌};
+    ghost use Rattle.rules.specs.Egress.{memory_for};
     ghost use Rattle.fault.specs.Asked.{unless};
     ghost use Rattle.rules.specs.Setup.{make_asked};
     ghost use Rattle.rules.specs.Shapes.{numbers};
@@ -73,7 +74,7 @@ impl Shape {
 
     /// How many bytes of frame memory the bridge needs: 1,518 for each frame that can stand in a queue.
     pub fn memory_needed(self) -> usize
-        ensures { result ≡ self.ports * self.classes * self.depth * 1518 }
+        ensures { result ≡ memory_for self.ports self.classes self.depth }
     {
         usize::from(self.ports) * usize::from(self.classes) * usize::from(self.depth) * 1518
     }

@@ -17,9 +17,11 @@ pub struct Vlan {
 /// What a static entry says of a port.
 #[derive(Clone, Copy, PartialEq, Eq, Debug, Drop)]
 pub enum Verdict {
-    /// Frames for the address go there, whatever else is said or learned.
+    /// Frames for an individual address are let through there, whatever else is said or learned. For a group it keeps
+    /// nothing back.
     Forward,
-    /// Frames for the address do not go there, unless another entry of the database says forward.
+    /// Frames for the address are not let through there, unless it is individual and another entry of the database
+    /// says forward.
     Filter,
     /// Nothing.
     Silent,

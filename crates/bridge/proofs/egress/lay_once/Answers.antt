@@ -1,4 +1,4 @@
-use Rattle.std.proofs.Common.{◌≡◌, ℕ, Bool, true, cond, slice_set, ap, sym, refl, ◌∙◌}
+use Rattle.std.proofs.Common.{ℕ, Bool, true, cond, slice_set, ap, sym, ◌∙◌}
 use Rattle.frame.specs.Reading.{picture}
 use Rattle.rules.specs.Egress.{class_of}
 use Rattle.rules.specs.declared.shape.Shape.{Shape}

@@ -1,4 +1,4 @@
-use Rattle.std.proofs.Common.{◌≡◌, ℕ, List, ap, refl, ◌∙◌}
+use Rattle.std.proofs.Common.{ℕ, List, ap, refl, ◌∙◌}
 use Rattle.frame.specs.Reading.{picture}
 use Rattle.rules.specs.Egress.{sendable}
 use Rattle.rules.specs.Ports.{Ports}

@@ -1,4 +1,4 @@
-use Rattle.std.proofs.Common.{◌≡◌, ℕ, length}
+use Rattle.std.proofs.Common.{◌≡◌}
 use Rattle.sets.specs.Sets.{members}
 use Rattle.frame.specs.Reading.{picture}
 use Rattle.rules.specs.Egress.{sendable}

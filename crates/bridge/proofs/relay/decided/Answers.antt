@@ -1,4 +1,4 @@
-use Rattle.std.proofs.Common.{◌≡◌, ℕ, ◌+◌, List, Bool, true, not, ◌&&◌, ◌==◌, map, nat_lt, slice_set, sym, ap, ◌∙◌}
+use Rattle.std.proofs.Common.{◌≡◌, List, Bool, true, not, ◌&&◌, ◌==◌, map, nat_lt, slice_set, sym, ap, ◌∙◌}
 use Rattle.sets.proofs.ByNumber.{tried_adds, tried_skips}
 use Rattle.rules.specs.Ports.{has}
 use Rattle.rules.specs.Relay.{forwards}

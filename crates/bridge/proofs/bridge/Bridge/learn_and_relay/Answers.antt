@@ -1,4 +1,4 @@
-use Rattle.std.proofs.Common.{◌≡◌, ℕ, true, List, map, get_or, sym, refl, ap, ◌∙◌}
+use Rattle.std.proofs.Common.{◌≡◌, ℕ, true, List, map, get_or, sym, ap, ◌∙◌}
 use Rattle.frame.specs.Reading.{picture}
 use Rattle.table.specs.declared.entry.Entry.{Entry}
 use Rattle.rules.specs.Calls.{relay}

@@ -1,10 +1,8 @@
-use Rattle.std.proofs.Common.{◌≡◌, ℕ, true, List, map, get_or, sym, refl, ap, ◌∙◌}
+use Rattle.std.proofs.Common.{◌≡◌, ℕ, true, List, map, get_or, sym, ap, ◌∙◌}
 use Rattle.frame.specs.Reading.{picture}
 use Rattle.table.specs.declared.entry.Entry.{Entry}
 use Rattle.rules.specs.Calls.{flood}
 use Rattle.rules.specs.Relay.{decided, forwards}
-use Rattle.rules.specs.Settings.{Settings}
-use Rattle.rules.specs.State.{State}
 use Rattle.rules.specs.declared.shape.Shape.{Shape}
 use Rattle.bridge.proofs.Relaying.{decided_is, of_ports, relays, share_as}
 use Rattle.bridge.proofs.States.{no_port, state_there}

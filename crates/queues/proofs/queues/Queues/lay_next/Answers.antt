@@ -7,7 +7,7 @@ use Rattle.frame.proofs.Back.{size_of_lem}
 use Rattle.queues.specs.declared.label.Label.{Label}
 use Rattle.queues.specs.declared.ring.Ring.{Ring}
 use Rattle.queues.specs.Rings.{is_queue, number_of, ring_at}
-use Rattle.queues.specs.Standing.{count_of, queues_of, slots_of}
+use Rattle.queues.specs.Standing.{frames_at, queues_of, slots_of}
 use Rattle.queues.proofs.Kept.{short_set}
 use Rattle.queues.proofs.Laid.{cell_answered, in_cell, laid_counts, laid_frames, laid_slots, not_written, written}
 use Rattle.queues.proofs.Meaning.{counts_are, frames_are, queue_with_room, room_left, slot_at, slots_are}
@@ -63,7 +63,7 @@ set_ring-requires c =
     }
 
 pub returns : goal.returns
-unfolding queues_of slots_of count_of
+unfolding queues_of slots_of frames_at
 returns c =
     let b = c.args.self.now in
     let a = c.set_ring.new.self in

@@ -1,12 +1,12 @@
 use Rattle.std.proofs.Common.{◌≡◌, ◌+◌, ◌-◌, sym, ap, ◌∙◌, arith}
-use Rattle.queues.specs.Standing.{count_of, counted_below}
+use Rattle.queues.specs.Standing.{frames_at, counted_below}
 use Rattle.queues.proofs.Counts.{below_all, none_above}
 use Rattle.queues.proofs.queues.Queues.total.Goals as goal
 
 pub returns : goal.returns
 returns c =
     let b = c.args.self.now in
-    let n = count_of b c.args.port in
+    let n = frames_at b c.args.port in
     let k = c.loop-class.class in
     let end : k ≡ b.shape.classes = omega arith in
     let all : (8 - k) + k ≡ 8 = omega (arith, end, b.shape.classes_high) in
