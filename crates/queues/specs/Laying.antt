@@ -1,4 +1,6 @@
--- What laying a frame into a queue answers, and what it leaves.
+-- What laying a frame into a queue answers, and what it leaves. A frame is laid at the end of one queue, into the cell of
+-- the queue's next slot, where the queue has room, the memory is large enough and the frame can be written. Whatever else
+-- is told of the queues by port and class stays as it was.
 use Rattle.std.specs.Prelude.{ℕ, ◌+◌, ◌%◌, Bool, cond, ◌&&◌, List, [], ◌∷◌, ◌++◌, ◌==◌, nat_le}
 use Rattle.std.specs.Option.{is_none}
 use Rattle.frame.specs.Reading.{Picture}

@@ -1,6 +1,6 @@
 -- A queue is a ring of slots: its frames stand in `count` slots one after another, the last of them just before slot
--- `next`, where the next frame will lie, going round from the last slot to the first. Queues are numbered by port,
--- then class. What is said here of rings, labels and sets holds at all times.
+-- `next`, where the next frame will lie, going round from the last slot to the first. Queues are numbered by port, then
+-- class. `Round`, `Short` and `Agree` are what `Queues` keeps true of itself.
 use Rattle.std.specs.Prelude.{◌≡◌, ℕ, ◌+◌, ◌-◌, ◌*◌, ◌<◌, ◌≤◌, Bool, false, cond, ◌&&◌, List, map, nat_lt, replicate, slice_index_or}
 use Rattle.rules.specs.Egress.{memory_for}
 use Rattle.rules.specs.Ports.{eight}

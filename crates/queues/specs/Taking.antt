@@ -1,4 +1,5 @@
--- What taking the oldest frame of a queue answers, and what it leaves.
+-- What taking the oldest frame of a queue answers, and what it leaves. The frame's bytes are copied to the front of an
+-- output memory, and the frame goes from its queue. Nothing else changes: the slot where the next frame will lie stays.
 use Rattle.std.specs.Prelude.{ℕ, Bool, cond, ◌&&◌, List, [], ◌∷◌, drop, length, Some, None, Option, nat_le}
 use Rattle.frame.specs.Writing.{put_at}
 use Rattle.rules.specs.State.{Queued}

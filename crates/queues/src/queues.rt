@@ -58,7 +58,7 @@ impl Queues {
         }
     }
 
-    /// How many ports, classes and slots there are.
+    /// How many ports there are, traffic classes for each, and frames that a queue holds at most.
     #[inline]
     pub fn shape(&self) -> Shape
         ensures { result ≡ self.now.shape }
