@@ -13,9 +13,9 @@ use table::table::Table;
 pub const TIME_LIMIT: u64 = 1 << 40;
 
 impl<T: Table + Drop, S: Selector + Drop> Bridge<T, S> {
-    /// Sets the clock to a time in milliseconds, and removes the addresses last heard the ageing time before it, or earlier.
-    /// Asks whether the bridge is started (1), the time is not before the clock (17), and it is less than 2 to the 40th
-    /// (18).
+    /// Sets the clock to a time in milliseconds, and removes the addresses that were heard last an ageing time ago or
+    /// earlier. Asks whether the bridge is started (1), the time is not before the clock (17), and it is below
+    /// `TIME_LIMIT` (18).
     pub fn advance(&mut self, time: u64) -> Result<(), Refusal>
         ensures step { (memory : List ℕ) → outcome (told_advanced result) (state_of self.new memory) ≡ perform (settings_of self.old) (state_of self.old memory) (advance time) None }
         ensures settings { settings_of self.new ≡ settings_of self.old }

@@ -32,8 +32,8 @@ fn admits(port: &PortSettings, tag: Option<Tag>) -> bool
 }
 
 impl Vlans {
-    /// The VLAN of a frame that arrives at a port and is classified to a VID. Asks whether the port takes a frame with such a tag (8), the VLAN
-    /// was added (9), and the port is a member of it or does not filter (10).
+    /// The VLAN of a frame that arrives at a port and is classified to a VID. Asks whether the port takes a frame with
+    /// such a tag (8), the VLAN was added (9), and the port is a member of it or does not filter (10).
     pub fn ingress(
         &self,
         settings: &PortSettings,
