@@ -47,12 +47,18 @@ fn the_first_no_answers_for_a_frame(rt: HostRuntime) -> Result<(), Fail> {
         vlans.ingress(&trunk, 2, tagged(11), 11).map(|v| v.vid),
         Err(Refusal::VlanNotCreated)
     );
-    assert_eq!(rt; vlans.ingress(&trunk, 2, tagged(10), 10).map(|v| v.vid), Ok(10));
+    assert_eq!(rt;
+        vlans.ingress(&trunk, 2, tagged(10), 10).map(|v| v.vid),
+        Ok(10)
+    );
     let filtering = settings(10, true, true);
     assert_eq!(rt;
         vlans.ingress(&filtering, 2, None, 10).map(|v| v.vid),
         Err(Refusal::NotMember)
     );
-    assert_eq!(rt; vlans.ingress(&filtering, 1, None, 10).map(|v| v.vid), Ok(10));
+    assert_eq!(rt;
+        vlans.ingress(&filtering, 1, None, 10).map(|v| v.vid),
+        Ok(10)
+    );
     Ok(())
 }
