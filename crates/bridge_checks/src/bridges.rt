@@ -1,7 +1,6 @@
 //! The bridge that is tried, at any table and selector.
 use bridge::bridge::Bridge;
 use bridge::check::check;
-use bridge::port_state::Port;
 use fault::refusal::Refusal;
 use hashed::hashed::Hashed;
 use rules::ports::PortSettings;
@@ -51,7 +50,9 @@ fn set_up<T: Table + Drop, S: Selector + Drop>(bridge: &mut Bridge<T, S>) -> Res
             port,
             PortSettings {
                 pvid: 10,
-                ..Port::FRESH.settings
+                admit_all: true,
+                ingress_filtering: false,
+                priority: 0,
             },
         )?;
     }
