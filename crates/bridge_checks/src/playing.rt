@@ -26,7 +26,7 @@ fn receive<T: Table + Drop, S: Selector + Drop>(
         Err(refusal) => {
             assert!(rt;
                 *memory == before,
-                "the frame memory after a refused receive"
+                "the frame memory after a receive at port {port}: {refusal:?}"
             );
             Ok(refused(refusal))
         }
@@ -62,7 +62,7 @@ fn send<T: Table + Drop, S: Selector + Drop>(
     };
     assert!(rt;
         output == output_with(rt, frame)?,
-        "the output memory after {answer:?}"
+        "the output memory after a send at port {port}: {answer:?}"
     );
     Ok(answer)
 }
