@@ -1,14 +1,15 @@
 -- The flags of a word, and what becomes of them when its bits are set, cleared and joined.
-use Rattle.std.proofs.Common.{◌≡◌, ℕ, ◌-◌, ◌*◌, ◌/◌, ◌%◌, ◌^◌, ◌<◌, ◌≤◌, ◌==◌, min, max, Bool, true, false, not, ◌&&◌, ◌||◌, zero, suc, List, [], ◌∷◌, length, replicate, slice_set, bit_and, bit_or, inl, inr, refl, ap, subst, sym, ◌∙◌, arith}
+use Rattle.std.proofs.Common.{◌≡◌, ℕ, ◌-◌, ◌*◌, ◌/◌, ◌%◌, ◌^◌, ◌<◌, ◌≤◌, ◌==◌, min, max, Bool, true, false, not, ◌&&◌, ◌||◌, zero, suc, List, [], ◌∷◌, length, map, replicate, nat_lt, slice_set, bit_and, bit_or, inl, inr, refl, ap, subst, sym, ◌∙◌, arith}
 use Rattle.std.specs.Int.{bit_at, w16, bit_not}
-use Rattle.std.proofs.lemmas.Bool.{cases_lt, cases_eq, cond-true, cond-false, eq-eqb, ne_eqb, false_from_ne_true}
+use Rattle.std.proofs.lemmas.Bool.{cases_lt, cases_eq, cond-true, cond-false, eq-eqb, ne_eqb, lt-ltb, le-ltb, false_from_ne_true}
 use Rattle.std.proofs.lemmas.List.{ext_get_or, get_or_past, length-set, length-replicate, get_or-replicate, get_or-set_same, get_or-set_other, set_past}
+use Rattle.std.proofs.lemmas.List.FromFn.{length-map-range_with_len, get_or-map-range_with_len}
 use Rattle.std.proofs.lemmas.Nat.{or_lt, one_shl, pow_below}
-use Rattle.std.proofs.lemmas.Nat.Bits.{bit_at-lt, bit_at_lowest, bit_at-suc, bit_at-zero, bit_at_above, bit_at_and, bit_at_or, bit_at_not, shr_and_one, bit_at_set_same, bit_at_set_other, bit_at_clear_same, bit_at_clear_other}
+use Rattle.std.proofs.lemmas.Nat.Bits.{bit_at-lt, bit_at_lowest, bit_at-suc, bit_at-zero, bit_at_above, bit_at_and, bit_at_or, bit_at_not, shr_and_one, bit_at_set_same, bit_at_set_other, bit_at_clear_same, bit_at_clear_other, bit_at_ones, bit_at_ones_above}
 use Rattle.std.specs.Cmp.{booleans_Decides}
 use Rattle.std.specs.Cmp.Lexicographic.{pointwise, pointwise_decides}
 use Rattle.sets.specs.Inverse.{word_of-flags_of, half_below}
-use Rattle.sets.specs.Sets.{holds, any_in, flag_by_flag, union, intersection, difference, same_flag}
+use Rattle.sets.specs.Sets.{holds, any_in, flag_by_flag, rising, union, intersection, difference, same_flag}
 use Rattle.sets.specs.Words.{flags_of, word_of}
 
 pub count_of_flags : (n word : ℕ) → length (flags_of n word) ≡ n
@@ -157,6 +158,35 @@ difference_flags n a b fits h =
     (λ k l. ap (λ bit. bit == 1) (bit_at_and a (bit_not w16 b) k)
     ∙ and_bit (bit_at a k) (bit_at (bit_not w16 b) k) (bit_at-lt a k) (bit_at-lt (bit_not w16 b) k)
     ∙ ap (λ flag. (bit_at a k == 1) && flag) (ap (λ bit. bit == 1) (bit_at_not w16 b k h (omega arith)) ∙ not_bit (bit_at b k) (bit_at-lt b k)))
+
+-- the numbers below another
+pub flags_below : (n k end : ℕ) → k ≡ min end n → flags_of n (2 ^ k - 1) ≡ map (λ number. nat_lt number end) (rising n)
+flags_below n k end e =
+    are_flags_of n (2 ^ k - 1) (map (λ number. nat_lt number end) (rising n)) (length-map-range_with_len (λ number. nat_lt number end) 0 n)
+    (λ i l. elim (cases_lt i end) [
+      | inl below ↦ ap (λ bit. bit == 1) (bit_at_ones k i (omega (arith, e))) ∙ sym (lt-ltb i end below) ∙ sym (get_or-map-range_with_len (λ number. nat_lt number end) 0 n i i false l (omega arith))
+      | inr above ↦ ap (λ bit. bit == 1) (bit_at_ones_above k i (omega (arith, e))) ∙ sym (le-ltb i end above) ∙ sym (get_or-map-range_with_len (λ number. nat_lt number end) 0 n i i false l (omega arith))
+    ])
+
+-- a number is in a set joined of two by what holds of it in each, also past their ends
+in_joined : (both : Bool → Bool → Bool) (n word a b k : ℕ) → both false false ≡ false → flags_of n word ≡ flag_by_flag both (flags_of n a) (flags_of n b) → holds (flags_of n word) k ≡ both (holds (flags_of n a) k) (holds (flags_of n b) k)
+in_joined both n word a b k none e =
+    let long : length (flags_of n a) ≡ length (flags_of n b) = count_of_flags n a ∙ sym (count_of_flags n b) in
+    let past : (w : ℕ) → n ≤ k → holds (flags_of n w) k ≡ false = λ w h. get_or_past (flags_of n w) k false (omega (arith, count_of_flags n w)) in
+    elim (cases_lt k n) [
+      | inl below ↦ ap (λ (flags : List Bool). holds flags k) e ∙ holds-flag_by_flag both (flags_of n a) (flags_of n b) k long (omega (arith, count_of_flags n a))
+      | inr above ↦ past word above ∙ sym none ∙ ap (λ flag. both flag false) (sym (past a above)) ∙ ap (λ flag. both (holds (flags_of n a) k) flag) (sym (past b above))
+    ]
+
+pub in_union : (n a b k : ℕ) → holds (flags_of n (bit_or a b)) k ≡ (holds (flags_of n a) k || holds (flags_of n b) k)
+in_union n a b k = in_joined (λ flag other. flag || other) n (bit_or a b) a b k refl (union_flags n a b)
+
+pub in_intersection : (n a b k : ℕ) → holds (flags_of n (bit_and a b)) k ≡ (holds (flags_of n a) k && holds (flags_of n b) k)
+in_intersection n a b k = in_joined (λ flag other. flag && other) n (bit_and a b) a b k refl (intersection_flags n a b)
+
+pub in_difference : (n a b k : ℕ) → n ≤ 16 → b < 2 ^ 16 → holds (flags_of n (bit_and a (bit_not w16 b))) k ≡ (holds (flags_of n a) k && not (holds (flags_of n b) k))
+in_difference n a b k fits h =
+    in_joined (λ flag other. flag && not other) n (bit_and a (bit_not w16 b)) a b k refl (difference_flags n a b fits h)
 
 -- two words have the same flags if they are the same
 pub same_flags : (n a b : ℕ) → a < 2 ^ n → b < 2 ^ n → (a == b) ≡ pointwise same_flag (flags_of n a) (flags_of n b)

@@ -1,5 +1,5 @@
 //! Sets of numbers in one word.
-ghost use Rattle.std.specs.Prelude.{◌≡◌, false, true, length, not, replicate, slice_set};
+ghost use Rattle.std.specs.Prelude.{◌≡◌, ℕ, ◌&&◌, ◌||◌, false, true, length, map, nat_lt, not, replicate, slice_set};
 ghost use Rattle.std.proofs.Common.{rules};
 ghost use Rattle.std.specs.Cmp.Rules.{comparing};
 ghost use Rattle.std.specs.Cmp.Lexicographic.{pointwise};
@@ -54,6 +54,17 @@ impl<const N: usize> NumberSet<N> {
         NumberSet { word: 0 }
     }
 
+    /// The numbers below `end`.
+    #[inline]
+    pub fn below(end: u8) -> Self
+        ensures { result ≡ map (λ number. nat_lt number end) (rising (width N)) }
+    {
+        let bits = usize::from(end).min(N).min(16);
+        NumberSet {
+            word: ((1u32 << bits) - 1) as u16,
+        }
+    }
+
     /// Whether the number is in the set.
     #[inline]
     #[tactic(auto, using(crate::proofs::Flags::shifted_bit, crate::proofs::Flags::past_word))]
@@ -96,9 +107,10 @@ impl<const N: usize> NumberSet<N> {
 
     /// The numbers that are in this set, in the other, or in both.
     #[inline]
-    #[tactic(auto, using(crate::proofs::Flags::union_flags, std::proofs::lemmas::Nat::or_lt))]
+    #[tactic(auto, using(crate::proofs::Flags::union_flags, crate::proofs::Flags::in_union, std::proofs::lemmas::Nat::or_lt))]
     pub fn union(&self, other: &Self) -> Self
-        ensures { result ≡ union self.now other.now }
+        ensures set { result ≡ union self.now other.now }
+        ensures each { (number : ℕ) → holds result number ≡ (holds self.now number || holds other.now number) }
     {
         NumberSet {
             word: self.word | other.word,
@@ -107,9 +119,10 @@ impl<const N: usize> NumberSet<N> {
 
     /// The numbers that are in both sets.
     #[inline]
-    #[tactic(auto, using(crate::proofs::Flags::intersection_flags))]
+    #[tactic(auto, using(crate::proofs::Flags::intersection_flags, crate::proofs::Flags::in_intersection))]
     pub fn intersection(&self, other: &Self) -> Self
-        ensures { result ≡ intersection self.now other.now }
+        ensures set { result ≡ intersection self.now other.now }
+        ensures each { (number : ℕ) → holds result number ≡ (holds self.now number && holds other.now number) }
     {
         NumberSet {
             word: self.word & other.word,
@@ -118,9 +131,10 @@ impl<const N: usize> NumberSet<N> {
 
     /// The numbers of this set that are not in the other.
     #[inline]
-    #[tactic(auto, using(crate::proofs::Flags::difference_flags))]
+    #[tactic(auto, using(crate::proofs::Flags::difference_flags, crate::proofs::Flags::in_difference))]
     pub fn difference(&self, other: &Self) -> Self
-        ensures { result ≡ difference self.now other.now }
+        ensures set { result ≡ difference self.now other.now }
+        ensures each { (number : ℕ) → holds result number ≡ (holds self.now number && not (holds other.now number)) }
     {
         NumberSet {
             word: self.word & !other.word,
