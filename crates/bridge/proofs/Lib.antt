@@ -5,5 +5,6 @@ pub mod Happening
 pub mod Laying
 pub mod Floods
 pub mod Relaying
+pub mod Opening
 pub mod Learns
 pub mod Receives

@@ -1,10 +1,10 @@
 //! Which ports a frame goes to.
-ghost use Rattle.std.specs.Prelude.{◌≡◌, ◌<◌, ◌≤◌, not, ◌&&◌, ◌==◌, length, map, nat_le, nat_lt, true};
+ghost use Rattle.std.specs.Prelude.{◌≡◌, ℕ, ◌<◌, ◌≤◌, not, ◌&&◌, ◌==◌, length, map, nat_le, nat_lt, true};
 ghost use Rattle.frame.specs.Reading.{picture};
 ghost use Rattle.rules.specs.Calls.{outcome, relay};
 ghost use Rattle.rules.specs.Egress.{memory_needed};
 ghost use Rattle.rules.specs.Ports.{has, ports_where};
-ghost use Rattle.rules.specs.Relay.{forwards};
+ghost use Rattle.rules.specs.Relay.{entry_lets, forwards};
 ghost use Rattle.table.specs.Entries.{is_fid};
 ghost use Rattle.bridge.specs.Decided.{goes_to, known_port, lets};
 ghost use Rattle.bridge.specs.Flooding.{Writable};
@@ -48,23 +48,6 @@ pub(crate) fn known_port<T: Table>(table: &mut T, fid: u8, destination: [u8; 6])
     }
 }
 
-// Whether a frame is let through to a port.
-#[inline]
-fn lets(said: &Said, known: Option<u8>, number: u8) -> bool
-    ensures { result ≡ lets said.now known number }
-{
-    if said.forward.contains(number) {
-        return true;
-    }
-    if said.filter.contains(number) {
-        return false;
-    }
-    match known {
-        None => true,
-        Some(port) => port == number,
-    }
-}
-
 /// What is asked of each port, and the answers that are the same for all.
 #[derive(Clone, Copy, Drop)]
 pub(crate) struct Way {
@@ -76,25 +59,57 @@ pub(crate) struct Way {
 }
 
 #[inline]
-fn goes_to(number: u8, port: &Port, way: &Way) -> bool
-    ensures { result ≡ (nat_lt number way.now.count && not (number == way.now.from) && forwards port.now.state && has way.now.members number && lets way.now.said way.now.known number) }
+fn only(port: u8) -> PortSet
+    ensures { (p : ℕ) → p < 16 → has result p ≡ (port == p) }
 {
-    number < way.count
-        && number != way.from
-        && forwards(port.state)
-        && way.members.contains(number)
-        && lets(&way.said, way.known, number)
+    let mut set = PortSet::empty();
+    set.insert(port);
+    set
+}
+
+// Those ports of a set that the table's entry lets a frame through to.
+#[inline]
+fn let_by_entry(set: &PortSet, known: Option<u8>) -> PortSet
+    ensures { (p : ℕ) → p < 16 → has result p ≡ (has set.now p && entry_lets known p) }
+{
+    match known {
+        None => *set,
+        Some(port) => set.intersection(&only(port)),
+    }
+}
+
+// Of a set of ports those that a frame is let through to.
+#[inline]
+fn let_through(set: &PortSet, said: &Said, known: Option<u8>) -> PortSet
+    ensures { (p : ℕ) → p < 16 → has result p ≡ (has set.now p && lets said.now known p) }
+{
+    let unfiltered = set.difference(&said.filter);
+    let forced = set.intersection(&said.forward);
+    let_by_entry(&unfiltered, known).union(&forced)
+}
+
+// The ports that a frame goes to if they forward. They are asked all at once, as what is asked at each of sixteen ports
+// holds up every frame.
+#[inline]
+fn candidates(way: &Way) -> PortSet
+    ensures { (p : ℕ) → p < 16 → has result p ≡ (nat_lt p way.now.count && not (p == way.now.from) && has way.now.members p && lets way.now.said way.now.known p) }
+{
+    let others = PortSet::below(way.count).difference(&only(way.from));
+    let_through(&others.intersection(&way.members), &way.said, way.known)
 }
 
 /// The ports that a frame goes to.
+#[inline(always)]
 #[tactic(auto, using(sets::proofs::ByNumber::tried_none, sets::proofs::ByNumber::tried_all))]
 pub(crate) fn decided(ports: &[Port; PORTS], way: &Way) -> PortSet
     ensures { result ≡ ports_where (goes_to way.now.count (map (λ port. port.state) ports.now) way.now.from way.now.members way.now.said way.now.known) }
 {
+    let candidates = candidates(way);
     let mut set = PortSet::empty();
     for (index, port) in ports.iter().enumerate() {
         let number = index as u8;
-        if goes_to(number, port, way) {
+        // With `&&` there is a branch at each port, which costs more than both questions.
+        if candidates.contains(number) & forwards(port.state) {
             set.insert(number);
         }
     }
