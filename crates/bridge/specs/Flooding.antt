@@ -24,17 +24,20 @@ abbrev pub flood_of : Queues → List ℕ → Ports → Flood
 flood_of queues memory no_room =
     record { queues = queues_of queues memory; slots = slots_of queues; memory = memory; no_room = no_room }
 
--- at one port
-abbrev pub laid_once : Shape → ℕ → (ℕ → Queued) → ℕ → Flood → Flood
-laid_once shape priority frame p now =
-    let c = class_of shape.classes priority in
+-- in one queue
+abbrev pub laid_in : Shape → ℕ → ℕ → Queued → Flood → Flood
+laid_in shape p c frame now =
     cond (is_queue shape p c && nat_lt (length (now.queues p c)) shape.depth)
     (record now {
-      queues = laid_one p c (frame p) now.queues;
+      queues = laid_one p c frame now.queues;
       slots = next_one shape.depth p c now.slots;
-      memory = put_at now.memory (cell_for shape.classes shape.depth p c (now.slots p c)) (frame p).bytes;
+      memory = put_at now.memory (cell_for shape.classes shape.depth p c (now.slots p c)) frame.bytes;
     })
     (record now { no_room = slice_set now.no_room p true })
+
+-- at one port
+abbrev pub laid_once : Shape → ℕ → (ℕ → Queued) → ℕ → Flood → Flood
+laid_once shape priority frame p = laid_in shape p (class_of shape.classes priority) (frame p)
 
 abbrev pub laid_over : Shape → ℕ → (ℕ → Queued) → List ℕ → Flood → Flood
 laid_over shape priority frame [] now = now

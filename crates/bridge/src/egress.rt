@@ -1,12 +1,14 @@
 //! Into the queues: the class, the room and the form of a frame at each port that it goes to.
-ghost use Rattle.std.specs.Prelude.{◌≡◌, ◌<◌, ◌≤◌, length, nat_le, true};
+ghost use Rattle.std.specs.Prelude.{◌≡◌, ◌<◌, ◌≤◌, None, length, nat_le, true};
 ghost use Rattle.frame.specs.Reading.{picture};
+ghost use Rattle.frame.specs.Writing.{shape_asked};
+ghost use Rattle.queues.specs.Laying.{queued};
 ghost use Rattle.queues.specs.Rings.{needed_for};
 ghost use Rattle.rules.specs.Egress.{class_of, egress_tag, memory_needed, sendable};
 ghost use Rattle.rules.specs.Ports.{no_ports};
 ghost use Rattle.sets.specs.Sets.{members};
 ghost use Rattle.rules.specs.Calls.{flood, outcome};
-ghost use Rattle.bridge.specs.Flooding.{OfPorts, Writable, flood_of, laid_once, laid_over};
+ghost use Rattle.bridge.specs.Flooding.{OfPorts, Writable, flood_of, laid_in, laid_over};
 ghost use Rattle.bridge.specs.LaidBy.{PlacedIn, laid_by};
 ghost use Rattle.bridge.specs.Told.{told_received};
 ghost use Rattle.bridge.specs.View.{settings_of, state_of};
@@ -60,36 +62,29 @@ fn egress_tag(vlan: &Vlan, priority: u8, port: u8) -> Option<Tag>
     })
 }
 
-// Lays a frame at a port, or notes that there is no room.
-#[inline]
+// Lays a frame into a queue, or notes that there is no room at the port.
+#[inline(always)]
 fn lay_once(
     queues: &mut Queues,
     memory: &mut [u8],
     no_room: &mut PortSet,
     port: u8,
-    frame: &Parts<'_>,
-    vlan: &Vlan,
-    priority: u8,
+    class: u8,
+    vid: u16,
+    form: &Parts<'_>,
 )
     requires memory { nat_le (needed_for queues.old.shape) (length memory.old) ≡ true }
-    requires priority { priority ≤ 7 }
-    requires form { Writable (picture frame.now) vlan.now priority }
-    ensures laid { flood_of queues.new memory.new no_room.new ≡ laid_once queues.old.shape priority (sendable (picture frame.now) vlan.now priority) port (flood_of queues.old memory.old no_room.old) }
+    requires form { shape_asked (picture form.now) ≡ None }
+    ensures laid { flood_of queues.new memory.new no_room.new ≡ laid_in queues.old.shape port class (queued vid (picture form.now)) (flood_of queues.old memory.old no_room.old) }
     ensures shape { queues.new.shape ≡ queues.old.shape }
 {
-    let class = class_of(queues.shape().classes(), priority);
-    let parts = Parts {
-        destination: frame.destination,
-        source: frame.source,
-        body: frame.body,
-        tag: egress_tag(vlan, priority, port),
-    };
-    if !queues.lay(memory, port, class, vlan.vid, &parts) {
+    if !queues.lay(memory, port, class, vid, form) {
         no_room.insert(port);
     }
 }
 
 /// Lays a frame at each port of a set that has room, and answers those that have none.
+#[inline(always)]
 pub(crate) fn lay_over(
     queues: &mut Queues,
     memory: &mut [u8],
@@ -104,9 +99,12 @@ pub(crate) fn lay_over(
     ensures laid { flood_of queues.new memory.new result ≡ laid_over queues.old.shape priority (sendable (picture frame.now) vlan.now priority) (members decided.now) (flood_of queues.old memory.old no_ports) }
     ensures shape { queues.new.shape ≡ queues.old.shape }
 {
+    let class = class_of(queues.shape().classes(), priority);
+    let mut form = *frame;
     let mut no_room = PortSet::empty();
     for port in decided.iter() {
-        lay_once(queues, memory, &mut no_room, port, frame, vlan, priority);
+        form.tag = egress_tag(vlan, priority, port);
+        lay_once(queues, memory, &mut no_room, port, class, vlan.vid, &form);
     }
     no_room
 }

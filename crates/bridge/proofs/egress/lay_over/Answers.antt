@@ -13,5 +13,6 @@ loop-port-init c =
     record {
       laid = ap (λ (ports : List ℕ). laid_over a.queues.now.shape a.priority form ports (flood_of a.queues.now a.memory.now c.empty-no_room.result)) (c.into_iter-port-iterator.ensures.into_iter_gives ∙ c.iter-port-items.ensures.numbers)
           ∙ ap (λ (none : Ports). laid_over a.queues.now.shape a.priority form (members a.decided.now) (flood_of a.queues.now a.memory.now none)) c.empty-no_room.ensures;
+      form = refl;
       shape = refl;
     }
