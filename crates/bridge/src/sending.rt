@@ -29,6 +29,7 @@ fn pick<S: Selector>(selector: &mut S, port: u8, standing: &ClassSet) -> Option<
 
 impl<T: Table + Drop, S: Selector + Drop> Bridge<T, S> {
     // Hands out the oldest frame of a class.
+    #[inline(always)]
     fn hand_out(
         &mut self,
         port: u8,

@@ -96,6 +96,7 @@ impl Statics {
 
     /// What is said of the ports for frames of a VLAN to an address: to an individual address by the entries under
     /// every VID of the VLAN's filtering database, to a group by the entry under the VLAN's own VID.
+    #[inline(always)]
     pub fn said(&self, vlans: &Vlans, vlan: &Vlan, destination: [u8; 6]) -> Said
         ensures { (σ : Settings) → result ≡ said_for (with_these σ vlans.now self.now) vlan.now destination }
     {

@@ -68,6 +68,7 @@ fn measure(room: usize, at: usize, parts: &Parts<'_>) -> Result<usize, Refusal>
 }
 
 // Fills a stretch of just the frame's length.
+#[inline(always)]
 fn fill(frame: &mut [u8], parts: &Parts<'_>)
     requires size { length frame.old ≡ size_of (picture parts.now) }
     requires tag { tag_fits parts.now.tag ≡ true }
@@ -83,6 +84,7 @@ fn fill(frame: &mut [u8], parts: &Parts<'_>)
 }
 
 // Lays a frame that was measured for this place, where it reads back exactly if it is readable.
+#[inline(always)]
 fn lay(memory: &mut [u8], at: usize, size: usize, parts: &Parts<'_>)
     requires { Ok size ≡ write_answer (length memory.old) at (picture parts.now) }
     ensures after { memory.new ≡ put_at memory.old at (frame_of (picture parts.now)) }
@@ -99,6 +101,7 @@ fn lay(memory: &mut [u8], at: usize, size: usize, parts: &Parts<'_>)
 /// `at` on (37). How an untagged body begins is not asked: one that begins 81 00 is written as it stands, and reads as
 /// a tag.
 // The memory comes whole and with a position: a part of it could not be one that lies outside, which is refused.
+#[inline(always)]
 pub fn write(memory: &mut [u8], at: usize, parts: &Parts<'_>) -> Result<usize, Refusal>
     ensures answer { result ≡ write_answer (length memory.old) at (picture parts.now) }
     ensures after { memory.new ≡ write_after memory.old at (picture parts.now) }
@@ -110,6 +113,7 @@ pub fn write(memory: &mut [u8], at: usize, parts: &Parts<'_>) -> Result<usize, R
 }
 
 // Writes a frame into a cell that lies in the memory.
+#[inline(always)]
 fn write_in_cell(memory: &mut [u8], place: usize, parts: &Parts<'_>) -> Result<usize, Refusal>
     requires { place + CELL ≤ length memory.old }
     ensures answer { result ≡ cell_answer (length memory.old) place (picture parts.now) }
@@ -123,6 +127,7 @@ fn write_in_cell(memory: &mut [u8], place: usize, parts: &Parts<'_>) -> Result<u
 ///
 /// It asks as [`write`] does. A cell holds every frame of an allowed length, so 37 asks whether the cell lies in the
 /// memory.
+#[inline(always)]
 #[tactic(auto, using(crate::proofs::Room::no_room))]
 pub fn write_cell(memory: &mut [u8], place: usize, parts: &Parts<'_>) -> Result<usize, Refusal>
     ensures answer { result ≡ cell_answer (length memory.old) place (picture parts.now) }

@@ -16,7 +16,7 @@ impl Queues {
     /// Lays a frame at the end of a queue, and answers whether it did. The frame is written straight into its cell of
     /// the frame memory, and `vid` is kept with it. Nothing is altered where the port or the class is none, where the
     /// queue is full, where the memory is too small, and where `frame::write` would refuse the parts.
-    #[inline]
+    #[inline(always)]
     pub fn lay(
         &mut self,
         memory: &mut [u8],
@@ -40,6 +40,7 @@ impl Queues {
     }
 
     // Lays a frame into the next slot of a queue that has room, if the frame can be written.
+    #[inline(always)]
     fn lay_next(
         &mut self,
         memory: &mut [u8],
