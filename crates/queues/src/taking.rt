@@ -1,5 +1,5 @@
 //! Taking frames out of queues.
-ghost use Rattle.std.specs.Prelude.{◌≡◌, ℕ, ◌+◌, ◌<◌, ◌≤◌, cond, IfSome, List, None, Some, length};
+ghost use Rattle.std.specs.Prelude.{◌≡◌, ℕ, ◌+◌, ◌<◌, ◌≤◌, ◌*◌, cond, IfSome, List, None, Some, drop, length, take};
 ghost use Rattle.frame.specs.Writing.{put_at};
 ghost use Rattle.queues.specs.Rings.{needed_for};
 ghost use Rattle.queues.specs.Standing.{frames_at, queues_of, slots_of};
@@ -29,6 +29,7 @@ impl Queues {
         self.take_oldest(memory, port, class, output)
     }
 
+    #[inline(always)]
     fn take_oldest(
         &mut self,
         memory: &[u8],
@@ -48,28 +49,38 @@ impl Queues {
         if self.count(port, class) == 0 {
             return None;
         }
-        let label = self.copy_oldest(memory, port, class, output);
+        // The ring goes on before the bytes are copied, so that nothing has to be kept over the copying.
+        let oldest = self.oldest(port, class);
         let ring = self.ring(port, class);
         self.set_ring(port, class, ring.with_one_fewer());
-        Some(label)
+        let at = CELL * oldest.cell;
+        put(output, &memory[at..at + usize::from(oldest.label.length)]);
+        Some(oldest.label)
     }
 
-    // Copies the oldest frame of a queue in which one stands to the front of the output memory.
-    fn copy_oldest(&self, memory: &[u8], port: u8, class: u8, output: &mut [u8]) -> Label
-        requires stands { 0 < frames_at self.now port class }
-        requires memory { needed_for self.now.shape ≤ length memory.now }
-        requires output { 1518 ≤ length output.old }
-        ensures label { Some result ≡ taken_of (queues_of self.now memory.now port class) }
-        ensures short { result.length ≤ 1518 }
-        ensures output { output.new ≡ handed_out (queues_of self.now memory.now port class) output.old }
+    // The oldest frame of a queue in which one stands.
+    #[inline(always)]
+    fn oldest(&self, port: u8, class: u8) -> Oldest
+        requires { 0 < frames_at self.now port class }
+        ensures within { 1518 * result.cell + 1518 ≤ needed_for self.now.shape }
+        ensures short { result.label.length ≤ 1518 }
+        ensures label { (m : List ℕ) → needed_for self.now.shape ≤ length m → Some result.label ≡ taken_of (queues_of self.now m port class) }
+        ensures bytes { (m output : List ℕ) → needed_for self.now.shape ≤ length m → put_at output 0 (take result.label.length (drop (1518 * result.cell) m)) ≡ handed_out (queues_of self.now m port class) output }
     {
         let ring = self.ring(port, class);
         let cell = self.cell(port, class, ring.oldest(self.shape.depth()));
-        let label = self.label(cell);
-        let at = CELL * cell;
-        put(output, &memory[at..at + usize::from(label.length)]);
-        label
+        Oldest {
+            cell,
+            label: self.label(cell),
+        }
     }
+}
+
+// A standing frame: where it lies in the frame memory, counted in cells, and its label.
+#[derive(Clone, Copy, Drop)]
+struct Oldest {
+    cell: usize,
+    label: Label,
 }
 
 // Copies bytes to the front of a memory.

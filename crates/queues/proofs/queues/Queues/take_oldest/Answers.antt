@@ -1,4 +1,5 @@
-use Rattle.std.proofs.Common.{◌≡◌, ◌<◌, ◌≤◌, ℕ, ◌+◌, true, List, [], length, sym, refl, ap, ◌∙◌, arith}
+use Rattle.std.proofs.Common.{◌≡◌, ◌<◌, ◌≤◌, ℕ, ◌+◌, ◌-◌, ◌*◌, true, List, [], drop, length, take, sym, refl, ap, ◌∙◌, arith}
+use Rattle.frame.specs.Writing.{put_at}
 use Rattle.rules.specs.State.{Queued}
 use Rattle.queues.specs.declared.ring.Ring.{Ring}
 use Rattle.queues.specs.Rings.{is_queue, number_of, ring_at}
@@ -60,10 +61,13 @@ returns c =
     let most : g.count ≤ b.shape.depth = (b.round.each n).count in
     let yn : y.next ≡ g.next = c.with_one_fewer.ensures.next ∙ ap (λ (r : Ring). r.next) c.ring-ring.ensures.is in
     let yc : y.count + 1 ≡ g.count = c.with_one_fewer.ensures.count ∙ ap (λ (r : Ring). r.count) c.ring-ring.ensures.is in
+    let oldest = c.oldest-oldest in
+    let bytes = λ (k : ℕ). put_at c.args.output.now 0 (take k (drop (1518 * oldest.result.cell) c.args.memory.now)) in
+    let long : (1518 * oldest.result.cell + c.from.result) - 1518 * oldest.result.cell ≡ oldest.result.label.length = omega (arith, c.from.ensures) in
     record {
-      answer = c.copy_oldest-label.ensures.label;
-      short = c.copy_oldest-label.ensures.short;
-      output = c.copy_oldest-label.ensures.output;
+      answer = oldest.ensures.label c.args.memory.now c.requires.memory;
+      short = oldest.ensures.short;
+      output = c.put.ensures ∙ ap bytes long ∙ oldest.ensures.bytes c.args.memory.now c.args.output.now c.requires.memory;
       queues = λ m. frames_are a b.shape _ e.shape e.rings b.labels.items m (ap (λ v. v.items) e.labels) ∙ taken_frames b.shape b.rings.items b.labels.items m port class n y h refl lt some most yn yc;
       slots = slots_are a b.shape _ e.shape e.rings ∙ same_slots b.shape b.rings.items n y lt yn;
       shape = e.shape;
