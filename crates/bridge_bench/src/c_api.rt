@@ -36,8 +36,7 @@ pub extern "C" fn bridge_bench_play(
     memory: &mut [u8],
     output: &mut [u8],
     passes: u32,
-) -> u64
-{
+) -> u64 {
     let Ok(checked) = check(alloc, ports, classes, depth) else {
         return 0;
     };

@@ -51,7 +51,14 @@ fn perform<T: Table + Drop>(
     };
     let mut bridge = bridge;
     let learned = pass(&mut bridge, work.ports, &work.hellos, memory, output);
-    learned.wrapping_add(passes(&mut bridge, work.ports, &work.traffic, work.passes, memory, output))
+    learned.wrapping_add(passes(
+        &mut bridge,
+        work.ports,
+        &work.traffic,
+        work.passes,
+        memory,
+        output,
+    ))
 }
 
 pub fn by_kind(
@@ -65,8 +72,20 @@ pub fn by_kind(
     match kind {
         0 => perform(checked, searched(&mut records), work, memory, output),
         1 => perform(checked, hashed(&mut records), work, memory, output),
-        2 => perform(checked, Recent::new(searched(&mut records)), work, memory, output),
-        3 => perform(checked, Recent::new(hashed(&mut records)), work, memory, output),
+        2 => perform(
+            checked,
+            Recent::new(searched(&mut records)),
+            work,
+            memory,
+            output,
+        ),
+        3 => perform(
+            checked,
+            Recent::new(hashed(&mut records)),
+            work,
+            memory,
+            output,
+        ),
         _ => 0,
     }
 }

@@ -30,7 +30,9 @@ pub fn of_received(answer: &Result<Received, Refusal>) -> u64 {
 pub fn of_sent(answer: &Result<Sent, Refusal>, output: &[u8]) -> u64 {
     match answer {
         Ok(sent) => {
-            let small = u64::from(sent.vid) + u64::from(sent.class) + u64::from(byte_at(output, 11));
+            let small = u64::from(sent.vid)
+                + u64::from(sent.class)
+                + u64::from(byte_at(output, 11));
             (sent.length as u64).wrapping_add(small)
         }
         Err(_) => 0,

@@ -38,10 +38,12 @@ returns c =
     let je : j ≡ n * d + oldest d g % d = c.cell-cell.ensures.is ∙ ap (λ (x : ℕ). n * d + x) slot in
     let bytes_of = λ (m : List ℕ). take r.length (drop (1518 * j) m) in
     let stood : (m : List ℕ) → needed_for b.shape ≤ length m → (queues_of b m port class ≡ (record { vid = r.vid; bytes = bytes_of m }) ∷ frames_of d y b.labels.items m n) × (length (bytes_of m) ≡ r.length) = λ m enough.
-        (let cut = cut_bytes b.labels.items r m j r.length c.label.ensures.is c.label.ensures.short (omega (arith, c.cell-cell.ensures.fits, enough)) refl in
-        ((let z = frames_are b b.shape b.rings.items refl refl b.labels.items m refl in λ i. z i port class)
-        ∙ stood_there b.shape b.rings.items b.labels.items m port class n y h refl lt some most refl (omega arith)
-        ∙ ap (λ (z : Queued). z ∷ frames_of d y b.labels.items m n) (sym (cut.0 ∙ ap (frame_at b.labels.items m) je)), cut.1)) in
+    (let cut = cut_bytes b.labels.items r m j r.length c.label.ensures.is c.label.ensures.short (omega (arith, c.cell-cell.ensures.fits, enough)) refl in (
+      (let z = frames_are b b.shape b.rings.items refl refl b.labels.items m refl in λ i. z i port class)
+          ∙ stood_there b.shape b.rings.items b.labels.items m port class n y h refl lt some most refl (omega arith)
+          ∙ ap (λ (z : Queued). z ∷ frames_of d y b.labels.items m n) (sym (cut.0 ∙ ap (frame_at b.labels.items m) je)),
+      cut.1,
+    )) in
     record {
       within = c.cell-cell.ensures.fits;
       short = c.label.ensures.short;
