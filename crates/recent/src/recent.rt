@@ -1,5 +1,6 @@
 //! A table that answers from memory what it was asked lately. It means what the table below it means.
-ghost use Rattle.std.specs.Prelude.{◌≡◌, ◌<◌, replicate, None};
+ghost use Rattle.std.specs.Prelude.{◌≡◌, ◌+◌, ◌%◌, ◌<◌, replicate, slice_set, Some, None, Ok};
+ghost use Rattle.table.specs.Calls.{answered};
 ghost use Rattle.recent.specs.Right.{Right, Right-prop};
 
 use crate::memory::{alters, forget, recall};
@@ -36,24 +37,38 @@ impl<T: Table> Recent<T> {
             next: 0,
         }
     }
+
+    // Remembers an answer of the table in the slot that is written next. Next comes the slot after it, going round.
+    #[inline(always)]
+    #[tactic(auto, using(crate::proofs::Rights::remembers))]
+    fn remember(&mut self, answer: Remembered)
+        requires right { answered (T.entries self.old.table) answer.key.fid answer.key.address ≡ Ok answer.port }
+        ensures slots { self.new.slots ≡ slice_set self.old.slots self.old.next (Some answer) }
+        ensures next { self.new.next ≡ (self.old.next + 1) % 8 }
+        ensures table { self.new.table ≡ self.old.table }
+    {
+        self.slots[usize::from(self.next)] = Some(answer);
+        self.next = (self.next + 1) % 8;
+    }
 }
 
+// `find` and `learn` are always inlined, so that a key or an entry is not handed over in memory.
 impl<T: Table> Table for Recent<T> {
     ghost entries = { λ s. T.entries s.table };
 
     ghost share = { λ s. T.share s.table };
 
-    #[tactic(auto, using(crate::proofs::Rights::remembers))]
+    #[inline(always)]
     fn find(&mut self, key: Key) -> Result<Option<u8>, Refusal> {
         if let Some(port) = recall(&self.slots, key) {
             return Ok(port);
         }
         let port = self.table.find(key)?;
-        self.slots[usize::from(self.next)] = Some(Remembered { key, port });
-        self.next = (self.next + 1) % 8;
+        self.remember(Remembered { key, port });
         Ok(port)
     }
 
+    #[inline(always)]
     fn learn(&mut self, entry: Entry) -> Result<Mark, Refusal> {
         let mark = self.table.learn(entry)?;
         if alters(mark) {
