@@ -117,16 +117,27 @@ impl<'a> Hashed<'a> {
     }
 
     // Frees the records of one stretch that were heard at the limit or before it, and says how many entries
-    // those held. The bounds are then measured anew, so that what went away does not make later searches longer.
+    // those held.
     fn expire_row(&mut self, row: Row, limit: u64) -> usize
         ensures gone { result + length (held_of self.new.records.now) ≡ length (held_of self.old.records.now) }
         ensures share { self.new.share ≡ self.old.share }
         ensures swept { held_of self.new.records.now ≡ filter (spared limit (row.index + 1)) (held_of self.old.records.now) }
     {
-        let before = self.bounds[row.index];
-        if !before.is_due(limit) {
+        if !self.bounds[row.index].is_due(limit) {
             return 0;
         }
+        self.sweep_row(row, limit)
+    }
+
+    // Frees what is due in one stretch and measures its bounds anew, so that what went away does not make later
+    // searches longer. It is not inlined, so that the registers which it uses are not saved where nothing is due.
+    #[inline(never)]
+    fn sweep_row(&mut self, row: Row, limit: u64) -> usize
+        ensures gone { result + length (held_of self.new.records.now) ≡ length (held_of self.old.records.now) }
+        ensures share { self.new.share ≡ self.old.share }
+        ensures swept { held_of self.new.records.now ≡ filter (spared limit (row.index + 1)) (held_of self.old.records.now) }
+    {
+        let before = self.bounds[row.index];
         let stretch = self.stretch(row);
         let records = &mut self.records[stretch];
         sweep(records, limit);
